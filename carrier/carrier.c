@@ -59,21 +59,14 @@ struct carrier *carrier_open(const struct carrier_options *options)
     return NULL;
 }
 
-int carrier_incarnation(struct carrier *carrier, unsigned shard, uint64_t *incarnation)
+int carrier_incarnation(struct carrier *carrier, unsigned shard, uint64_t *incarnation, uint64_t *end)
 {
-    return carrier->incarnation(carrier, shard, incarnation);
+    return carrier->incarnation(carrier, shard, incarnation, end);
 }
 
 int carrier_make(struct carrier *carrier, unsigned shard, uint64_t *incarnation)
 {
     return carrier->make(carrier, shard, incarnation);
-}
-
-int carrier_since(struct carrier *carrier, unsigned shard, const char *session, uint64_t after,
-                  carrier_take *take, void *given, int *is_whole)
-{
-    *is_whole = 1;
-    return carrier->since(carrier, shard, session, after, take, given, is_whole);
 }
 
 int carrier_publish(struct carrier *carrier, unsigned shard, const char *session, uint32_t tag,
@@ -112,12 +105,6 @@ int carrier_acknowledge(struct carrier *carrier, unsigned shard, const struct ca
 int carrier_receipts(struct carrier *carrier, carrier_receipt *take, void *given)
 {
     return carrier->receipts(carrier, take, given);
-}
-
-int carrier_last_receipt(struct carrier *carrier, unsigned shard, const char *session,
-                         carrier_receipt *take, void *given)
-{
-    return carrier->last_receipt(carrier, shard, session, take, given);
 }
 
 int carrier_is_away(struct carrier *carrier)

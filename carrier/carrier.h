@@ -3,7 +3,7 @@
  * A carrier keeps frames in shards. A shard is a list that grows at its end alone: each frame
  * stands at an offset above 0, offsets rise, and a reader is given all frames after an offset, in
  * order. A frame that is published twice stands there twice. That is harmless, and the carrier
- * must not prevent it (see progress.h): JetStream's deduplication stays off.
+ * must not prevent it (docs/ENGINE.md): JetStream's deduplication stays off.
  *
  * What is asked of a carrier is that what it confirmed stays where it stands, and that a fetch
  * leaves nothing out. If it breaks that, or somebody writes into it, sessions stand still: no text
@@ -86,19 +86,12 @@ void carrier_check_options(const char *program, const struct carrier_options *op
 /* Opens it; the options stay. NULL, with a line of the log, if it can't be opened. */
 struct carrier *carrier_open(const struct carrier_options *options);
 
-/* The incarnation of a shard: 0 if there is none yet. */
-int carrier_incarnation(struct carrier *carrier, unsigned shard, uint64_t *incarnation);
+/* The incarnation of a shard, 0 if there is none yet, and its last offset, about. */
+int carrier_incarnation(struct carrier *carrier, unsigned shard, uint64_t *incarnation, uint64_t *end);
 
-/* The same for one who publishes: the shard is made unless it exists. As long as the carrier has no
+/* The incarnation for one who publishes: the shard is made unless it exists. As long as the carrier has no
  * reason to ask again, that costs nothing. */
 int carrier_make(struct carrier *carrier, unsigned shard, uint64_t *incarnation);
-
-/* Passes each frame that stands in the shard under this session's name after an offset to a function, in
- * their order; what that doesn't answer 0 ends it with this answer. is_whole becomes 0 if the shard has
- * lost frames after the offset, as by its retention. */
-typedef int carrier_take(void *given, const struct carried *frame);
-int carrier_since(struct carrier *carrier, unsigned shard, const char *session, uint64_t after,
-                  carrier_take *take, void *given, int *is_whole);
 
 /* Passes a frame to the carrier. It is stored when it is confirmed, with the caller's tag and
  * number. If it isn't confirmed within some seconds, it may be stored or not. A confirmation counts
@@ -116,7 +109,7 @@ int carrier_confirmed(struct carrier *carrier, struct confirmed *list, size_t ro
 void carrier_seek(struct carrier *carrier, unsigned shard, uint64_t offset);
 
 /* Takes the next frames, up to room of them, and answers how many. Waits for the first at most so
- * long. CARRIER_CHANGED: ask for the incarnation, and seek. */
+ * long. CARRIER_CHANGED: it is another list, or ends before: ask for the incarnation, and seek. */
 int carrier_fetch(struct carrier *carrier, struct carried *list, size_t room, int milliseconds);
 
 /* How many frames stand after the last that was fetched: about, and as far as that is known. */
@@ -129,13 +122,10 @@ int carrier_behind(struct carrier *carrier, uint64_t *frames);
 int carrier_acknowledge(struct carrier *carrier, unsigned shard, const struct carried *list,
                         size_t count);
 
-/* Passes those that came since the last call to a function. */
+/* Passes those that came since the last call to a function; the first call passes the last one of each session,
+ * and may wait for that. */
 typedef void carrier_receipt(void *given, const char *session, const uint8_t *receipt, size_t len);
 int carrier_receipts(struct carrier *carrier, carrier_receipt *take, void *given);
-
-/* The same of the last one of a session, if there is one. */
-int carrier_last_receipt(struct carrier *carrier, unsigned shard, const char *session,
-                         carrier_receipt *take, void *given);
 
 /* Whether there is no connection now: another one is tried all the time. */
 int carrier_is_away(struct carrier *carrier);
@@ -149,9 +139,8 @@ void carrier_close(struct carrier *carrier);
 /* ---- For those who write a carrier: its first member is a struct carrier. */
 
 struct carrier {
-    int (*incarnation)(struct carrier *, unsigned, uint64_t *);
+    int (*incarnation)(struct carrier *, unsigned, uint64_t *, uint64_t *);
     int (*make)(struct carrier *, unsigned, uint64_t *);
-    int (*since)(struct carrier *, unsigned, const char *, uint64_t, carrier_take *, void *, int *);
     void (*seek)(struct carrier *, unsigned, uint64_t);
     int (*publish)(struct carrier *, unsigned, const char *, uint32_t, uint64_t, const uint8_t *,
                    size_t);
@@ -160,7 +149,6 @@ struct carrier {
     int (*behind)(struct carrier *, uint64_t *);
     int (*acknowledge)(struct carrier *, unsigned, const struct carried *, size_t);
     int (*receipts)(struct carrier *, carrier_receipt *, void *);
-    int (*last_receipt)(struct carrier *, unsigned, const char *, carrier_receipt *, void *);
     int (*is_away)(struct carrier *), (*is_closed)(struct carrier *); /* NULL: it never is */
     void (*close)(struct carrier *);
 };

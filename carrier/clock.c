@@ -19,6 +19,11 @@ uint64_t nanoseconds(void)
     return (uint64_t)now.tv_sec * 1000000000 + (uint64_t)now.tv_nsec;
 }
 
+uint64_t milliseconds(void)
+{
+    return nanoseconds() / 1000000;
+}
+
 void pause_milliseconds(unsigned milliseconds)
 {
     struct timespec time = { milliseconds / 1000, (long)(milliseconds % 1000) * 1000000 };

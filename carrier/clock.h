@@ -9,6 +9,7 @@ struct krbrelay_moment read_clock(void);
 
 /* A clock that only rises, in nanoseconds. */
 uint64_t nanoseconds(void);
+uint64_t milliseconds(void);
 
 void pause_milliseconds(unsigned milliseconds);
 

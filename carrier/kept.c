@@ -82,17 +82,6 @@ int kept_find(struct store *store, struct kerberos *kerberos, const char *name, 
                      &r);
 }
 
-int kept_find_standing(struct store *store, struct kerberos *kerberos, unsigned shard,
-                       kept_take *take, void *given)
-{
-    const struct value values[] = { { VALUE_NUMBER, shard, NULL, 0 } };
-    struct reading r = { .kerberos = kerberos, .take = take, .given = given };
-    return store_ask(store, "SELECT " COLUMNS " FROM opened WHERE shard = $1 AND (name IN"
-                            " (SELECT name FROM session WHERE shard = $1 AND missed <> 0) OR name IN"
-                            " (SELECT session FROM passed WHERE shard = $1))",
-                     values, 1, read_row, &r);
-}
-
 /* A session that may be the one that is looked for. */
 struct rival { const struct opened *of; int is_other; };
 

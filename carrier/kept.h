@@ -10,13 +10,10 @@
 
 typedef int kept_take(void *given, const struct opened *it);
 
-/* Passes the session of this name, if there is one, to a function; each that stands in a shard, or
- * whose name is noted as passed by there. What that doesn't answer 0 ends it, with -1, as a fault
- * does. A key that can't be read is such a fault: is the keytab there? */
+/* Passes the session of this name, if there is one, to a function. What that doesn't answer 0 ends it, with -1,
+ * as a fault does. A key that can't be read is such a fault: is the keytab there? */
 int kept_find(struct store *store, struct kerberos *kerberos, const char *name, kept_take *take,
               void *given);
-int kept_find_standing(struct store *store, struct kerberos *kerberos, unsigned shard,
-                       kept_take *take, void *given);
 
 /* Whether the client's stream has a session after this one already: 1, 0, or -1 after a fault. */
 int kept_is_forked(struct store *store, const struct opened *it);

@@ -40,6 +40,16 @@ static const char *fault_of(const struct nats_carrier *c, const jsStreamConfig *
     return NULL;
 }
 
+natsStatus nats_judge_stream(const struct nats_carrier *c, const char *name, const jsStreamConfig *config)
+{
+    const char *fault = fault_of(c, config);
+    if (fault == NULL)
+        return NATS_OK;
+    log_fact(LEVEL_ERROR, "stream_unfit", field_text("stream", name), field_text("fault", fault),
+             field_text("text", "change the stream, or give other options"));
+    return NATS_ERR;
+}
+
 /* The options of a question about a stream. */
 natsStatus nats_begin_to_ask(struct nats_carrier *c, jsOptions *options)
 {
@@ -73,7 +83,6 @@ void nats_note_asked(struct nats_carrier *c, natsStatus status)
 natsStatus nats_ask_stream(struct nats_carrier *c, unsigned shard, jsStreamInfo **info)
 {
     char name[32];
-    const char *fault;
     jsOptions options;
     jsErrCode code = 0;
     natsStatus status = nats_begin_to_ask(c, &options);
@@ -82,22 +91,16 @@ natsStatus nats_ask_stream(struct nats_carrier *c, unsigned shard, jsStreamInfo 
     if (status == NATS_OK)
         status = js_GetStreamInfo(info, c->js, name, &options, &code);
     nats_note_asked(c, status);
-    if (status != NATS_OK)
-        return status;
-    fault = fault_of(c, (*info)->Config);
-    if (fault == NULL)
-        return NATS_OK;
-    log_fact(LEVEL_ERROR, "stream_unfit", field_text("stream", name), field_text("fault", fault),
-             field_text("text", "change the stream, or give other options"));
-    return NATS_ERR;
+    return status == NATS_OK ? nats_judge_stream(c, name, (*info)->Config) : status;
 }
 
-static int incarnation(struct carrier *base, unsigned shard, uint64_t *incarnation)
+static int incarnation(struct carrier *base, unsigned shard, uint64_t *incarnation, uint64_t *end)
 {
     struct nats_carrier *c = (struct nats_carrier *)base;
     jsStreamInfo *info = NULL;
     natsStatus status = nats_ask_stream(c, shard, &info);
     *incarnation = status == NATS_OK ? (uint64_t)info->Created : 0;
+    *end = status == NATS_OK ? info->State.LastSeq : 0;
     if (c->incarnation != *incarnation)
         c->known = 0;
     c->incarnation = *incarnation;
@@ -267,7 +270,6 @@ struct carrier *nats_carrier_open(const struct carrier_options *options)
         return NULL;
     c->base.incarnation = incarnation;
     c->base.make = nats_make;
-    c->base.since = nats_since;
     c->base.publish = nats_publish;
     c->base.confirmed = nats_confirmed;
     c->base.seek = nats_seek;
@@ -275,7 +277,6 @@ struct carrier *nats_carrier_open(const struct carrier_options *options)
     c->base.behind = nats_behind;
     c->base.acknowledge = nats_acknowledge;
     c->base.receipts = nats_receipts;
-    c->base.last_receipt = nats_last_receipt;
     c->base.is_away = is_away;
     c->base.is_closed = is_closed;
     c->base.close = close_it;

@@ -6,14 +6,10 @@
 
 #include "carrier.h"
 
+#include <krbrelay.h>
 #include <nats/nats.h>
 
-/* As many confirmations as the windows of all shards in a burst: where there is no room, no answers are
- * read that would make some. */
-enum { NATS_HELD = 4096, NATS_UNPROVED = 1 << 18 };
-
-/* A confirmation, and whether the end of its stream was asked for since it came. */
-struct nats_answer { struct confirmed it; unsigned shard; int is_asked; };
+enum { NATS_HELD = 4096 };
 
 struct nats_carrier {
     struct carrier base;
@@ -26,31 +22,28 @@ struct nats_carrier {
     int patience;
     uint64_t asked;
     int64_t answered;
-    /* Of each shard to which frames are published: its incarnation, whether it is known, until
-     * when, and if not, not before which moment it is asked for; the last offset that it is known
-     * to have, and when it was asked for that, or 0. */
-    struct { uint64_t incarnation, until, moment, last, asked; int is_known; }
+    /* Of each shard to which frames are published: its incarnation, whether it is known, the question about it
+     * that is under way, or 0, and the pause until the next one. */
+    struct { uint64_t incarnation; unsigned long question; struct krbrelay_pause pause; int is_known; }
         made[CARRIER_SHARDS];
-    uint64_t doubted;                   /* when it was last doubted that all are there */
-    struct nats_answer unproved[NATS_UNPROVED]; /* confirmations beyond the known ends */
-    int unproved_count;
+    unsigned long questions;            /* so many were asked, */
+    unsigned asked_count;               /* and are under way */
+    uint64_t doubted;                   /* when it was last doubted that all are there, in milliseconds */
     natsInbox *inbox;                   /* confirmations */
     natsSubscription *answers;
-    /* The reader: which list it is, where it stands, how many frames its consumer has delivered,
-     * how often it was tried to begin, and the frames of the last fetch. */
+    /* The reader: which list it is, where it stands, how many frames its consumer has delivered, and the frames of
+     * the last fetch. */
     unsigned shard;
     uint64_t incarnation, after, delivered;
     uint64_t known;                     /* it has been here: what is gone before it was told */
     uint64_t pending;                   /* frames after the last, when it was delivered */
-    unsigned tries;
     natsSubscription *reader;
     natsMsg *held[NATS_HELD];
     int held_count;
     int is_silent;                      /* 1: the consumer's heartbeats are missed */
     natsSubscription *receipts;         /* all that are published, from the first look on */
     uint64_t receipts_moment;           /* their stream isn't asked for before this moment */
-    int has_seen_receipts;              /* a sender has asked what it is, */
-    int has_told_replicas;              /* and told that it has too few replicas */
+    int has_told_replicas;              /* it was told that it has too few replicas */
 };
 
 /* Logs a fault of a call; CARRIER_FAULT. */
@@ -60,16 +53,15 @@ int nats_report(const char *what, natsStatus status);
  * none, and NATS_ERR, with a report, if it isn't one that a shard may be. */
 natsStatus nats_ask_stream(struct nats_carrier *c, unsigned shard, jsStreamInfo **info);
 
+/* Whether a stream may be a shard: NATS_OK, or NATS_ERR with a report. */
+natsStatus nats_judge_stream(const struct nats_carrier *c, const char *name, const jsStreamConfig *config);
+
 /* nats_publisher.c: makes streams, publishes frames, and reads confirmations. */
 natsStatus nats_await_answers(struct nats_carrier *c);
 int nats_make(struct carrier *base, unsigned shard, uint64_t *incarnation);
 int nats_publish(struct carrier *base, unsigned shard, const char *session, uint32_t tag,
                  uint64_t number, const uint8_t *frame, size_t len);
 int nats_confirmed(struct carrier *base, struct confirmed *list, size_t room, int milliseconds);
-
-/* nats_since.c */
-int nats_since(struct carrier *base, unsigned shard, const char *session, uint64_t after,
-               carrier_take *take, void *given, int *is_whole);
 
 /* nats_reader.c */
 void nats_seek(struct carrier *base, unsigned shard, uint64_t offset);
@@ -81,8 +73,6 @@ void nats_stop_reading(struct nats_carrier *c);
 int nats_acknowledge(struct carrier *base, unsigned shard, const struct carried *list,
                      size_t count);
 int nats_receipts(struct carrier *base, carrier_receipt *take, void *given);
-int nats_last_receipt(struct carrier *base, unsigned shard, const char *session,
-                      carrier_receipt *take, void *given);
 
 /* The options of a question about a stream, and what its answer was: nats_carrier.c. */
 natsStatus nats_begin_to_ask(struct nats_carrier *c, jsOptions *options);

@@ -1,14 +1,11 @@
-/* Publishing over NATS JetStream.
+/* Publishing over NATS JetStream. Nothing here waits for an answer.
  *
  * A frame is published with a reply subject of its own, INBOX.INCARNATION.SHARD.TAG.NUMBER, to
  * which the stream answers with the sequence number at which it stored the message. No Nats-Msg-Id
  * is set: a stream that drops what it has seen would drop what is sent again to come after its
- * predecessor (progress.h).
+ * predecessor. Whoever may write to the inbox can confirm what isn't stored: that paces, and deletes nothing.
  *
- * Whoever may write to the inbox can confirm what isn't stored. So a confirmation of another
- * incarnation doesn't count, and none beyond the end that the stream itself tells: one that is
- * beyond the end that is known is kept until the stream was asked, and has answered. Nothing waits
- * for that. */
+ * A shard's stream is asked for at INBOX.QUESTION.SHARD.stream.0, and made if there is none. */
 #include "clock.h"
 #include "log.h"
 #include "nats_carrier.h"
@@ -18,11 +15,14 @@
 #include <stdlib.h>
 #include <string.h>
 
-enum { ANSWER = 512 };
-
-#define SECOND UINT64_C(1000000000)
-#define DOUBT (SECOND / 5)
-#define KNOWN (10 * SECOND) /* after which it is asked again whether a stream is still the same */
+enum {
+    ANSWER = 512,       /* bytes of a refusal that are read */
+    QUESTIONS = 256,    /* so many are under way at most; milliseconds: */
+    DOUBT = 200,
+    KNOWN = 10000,      /* after which it is asked again whether a stream is still the same, */
+    AGAIN = 2000,       /* whether it is there, if nothing was answered, */
+    AGAIN_MOST = 16000  /* and then ever more rarely */
+};
 
 natsStatus nats_await_answers(struct nats_carrier *c)
 {
@@ -37,65 +37,194 @@ natsStatus nats_await_answers(struct nats_carrier *c)
     return status;
 }
 
-/* ---- Streams */
+/* ---- What an answer says */
 
-/* NATS_ERR: the servers don't make it, which is reported. */
-static natsStatus add_stream(struct nats_carrier *c, unsigned shard, jsStreamInfo **info)
+/* The bytes of a message after a word, and how many there are; NULL if it doesn't have the word. */
+static const char *after(natsMsg *message, const char *word, size_t *left)
 {
-    char name[32], subject[32];
-    const char *subjects[1] = { subject };
-    jsStreamConfig config;
-    jsErrCode code = 0;
-    natsStatus status = jsStreamConfig_Init(&config);
-    write_whole(name, sizeof name, "KRB_%u", shard);
-    write_whole(subject, sizeof subject, "krb.%u.*", shard);
-    config.Name = name;
-    config.Subjects = subjects;
-    config.SubjectsLen = 1;
-    config.Storage = js_FileStorage;
-    config.Replicas = c->replicas;
-    if (status == NATS_OK)
-        status = js_AddStream(info, c->js, &config, NULL, &code);
-    if (status == NATS_ERR)
-        log_fact(LEVEL_ERROR, "stream_unmade", field_text("stream", name),
-                 field_number("replicas", c->replicas),
-                 field_text("fault", nats_GetLastError(NULL)),
-                 field_text("text", "are there so many nodes? Tried again"));
-    return status;
+    const char *data = natsMsg_GetData(message);
+    size_t len = (size_t)natsMsg_GetDataLength(message), size = strlen(word);
+    const char *place = len > 0 ? memmem(data, len, word, size) : NULL;
+    if (place == NULL)
+        return NULL;
+    *left = len - (size_t)(place + size - data);
+    return place + size;
 }
 
-/* A shard that can't be made is asked for again after a second, so that it doesn't keep the others
- * waiting. NATS_ERR was reported. */
-static int try_later(struct nats_carrier *c, unsigned shard, natsStatus status)
+static int says(natsMsg *message, const char *word)
 {
-    c->made[shard].moment = nanoseconds() + SECOND;
-    c->made[shard].is_known = 0;
-    return status == NATS_ERR ? CARRIER_FAULT : nats_report("a stream", status);
+    size_t left;
+    return after(message, word, &left) != NULL;
+}
+
+/* The number after a word; 0 if it isn't there. */
+static uint64_t number_after(natsMsg *message, const char *word)
+{
+    char digits[24];
+    size_t left;
+    const char *place = after(message, word, &left);
+    if (place == NULL)
+        return 0;
+    write_cut(digits, sizeof digits, "%.*s", (int)(left < sizeof digits ? left : sizeof digits - 1), place);
+    return strtoull(digits, NULL, 10);
+}
+
+/* Letters that servers write as \\u003e, and the like, become what they are. */
+static void unescape(char *text)
+{
+    char *from = text, *to = text;
+    unsigned letter;
+    while (*from != 0) {
+        int is_escaped = sscanf(from, "\\u00%2x", &letter) == 1 && letter >= ' ' && letter < 127;
+        *to++ = is_escaped ? (char)letter : *from;
+        from += is_escaped ? 6 : 1;
+    }
+    *to = 0;
+}
+
+/* What an error describes itself as. */
+static void read_description(natsMsg *message, char text[ANSWER])
+{
+    size_t left = 0;
+    const char *place = after(message, "\"description\":\"", &left);
+    if (left >= ANSWER)
+        left = ANSWER - 1;
+    write_cut(text, ANSWER, "%.*s", (int)left, place != NULL ? place : "");
+    text[strcspn(text, "\"")] = 0;
+    unescape(text);
+}
+
+/* Days from 1970 to a day of the Gregorian calendar. */
+static int64_t days_to(int64_t year, int64_t month, int64_t day)
+{
+    int64_t of_year = year - (month <= 2), months = (month + 9) % 12;
+    return 365 * of_year + of_year / 4 - of_year / 100 + of_year / 400 + (153 * months + 2) / 5 + day - 719469;
+}
+
+/* When a stream was made, in nanoseconds since 1970, as libnats reads it; 0 if the answer doesn't tell. */
+static uint64_t read_created(natsMsg *message)
+{
+    unsigned year, month, day, hour, minute, second;
+    char text[40];
+    uint64_t nanosecond = 0, unit = 100000000;
+    size_t left = 0;
+    const char *place = after(message, "\"created\":\"", &left), *digit;
+    int used = 0;
+    write_cut(text, sizeof text, "%.*s", (int)(left < sizeof text ? left : sizeof text - 1), place ? place : "");
+    if (sscanf(text, "%4u-%2u-%2uT%2u:%2u:%2u%n", &year, &month, &day, &hour, &minute, &second, &used) != 6)
+        return 0;
+    for (digit = text + used + (text[used] == '.'); *digit >= '0' && *digit <= '9'; digit++) {
+        nanosecond += (uint64_t)(*digit - '0') * unit;
+        unit /= 10;
+    }
+    return ((uint64_t)days_to(year, month, day) * 86400 + hour * 3600 + minute * 60 + second) * 1000000000
+           + nanosecond;
+}
+
+/* ---- Streams */
+
+/* Asks for a shard's stream, or has it made. */
+static void ask(struct nats_carrier *c, unsigned shard, const char *what, const char *text)
+{
+    char subject[64], reply[160];
+    natsStatus status;
+    write_whole(subject, sizeof subject, "$JS.API.STREAM.%s.KRB_%u", what, shard);
+    write_whole(reply, sizeof reply, "%s.%lu.%u.stream.0", (const char *)c->inbox, ++c->questions, shard);
+    c->made[shard].question = c->questions;
+    status = natsConnection_PublishRequest(c->connection, subject, reply, text, (int)strlen(text));
+    if (status != NATS_OK)
+        nats_report("a stream", status);
+}
+
+/* The question is answered, or waited for no longer. */
+static void end_question(struct nats_carrier *c, unsigned shard)
+{
+    c->asked_count -= c->made[shard].question != 0;
+    c->made[shard].question = 0;
+}
+
+/* Asks whether a stream is there, unless that is under way. Before the answer to the one before was due, nothing
+ * is asked. */
+static void look_for(struct nats_carrier *c, unsigned shard)
+{
+    uint64_t now = milliseconds();
+    if (!krbrelay_pause_is_over(&c->made[shard].pause, now))
+        return;
+    if (c->made[shard].question != 0) { /* nothing was answered */
+        end_question(c, shard);
+        c->made[shard].is_known = 0;
+        nats_report("a stream", NATS_TIMEOUT);
+    }
+    if (c->asked_count == QUESTIONS)
+        return;
+    c->asked_count++;
+    if (c->made[shard].is_known || c->made[shard].pause.length == 0)
+        krbrelay_pause_begin(&c->made[shard].pause, AGAIN, now);
+    else
+        krbrelay_pause_grow(&c->made[shard].pause, AGAIN_MOST, now);
+    ask(c, shard, "INFO", "");
 }
 
 int nats_make(struct carrier *base, unsigned shard, uint64_t *incarnation)
 {
     struct nats_carrier *c = (struct nats_carrier *)base;
-    jsStreamInfo *info = NULL;
-    natsStatus status;
-    if (!c->made[shard].is_known || nanoseconds() > c->made[shard].until) {
-        if (nanoseconds() < c->made[shard].moment)
-            return CARRIER_FAULT;
-        status = nats_ask_stream(c, shard, &info);
-        if (status == NATS_NOT_FOUND) /* two that add the same stream at once both get it */
-            status = add_stream(c, shard, &info);
-        if (status == NATS_OK) {
-            c->made[shard].incarnation = (uint64_t)info->Created;
-            c->made[shard].last = info->State.LastSeq;
-            c->made[shard].is_known = 1;
-            c->made[shard].until = nanoseconds() + KNOWN;
-        }
-        jsStreamInfo_Destroy(info);
-        if (status != NATS_OK)
-            return try_later(c, shard, status);
-    }
+    look_for(c, shard);
     *incarnation = c->made[shard].incarnation;
-    return 0;
+    return c->made[shard].is_known ? 0 : CARRIER_FAULT;
+}
+
+static void make_stream(struct nats_carrier *c, unsigned shard)
+{
+    char text[256];
+    write_whole(text, sizeof text, "{\"name\":\"KRB_%u\",\"subjects\":[\"krb.%u.*\"],\"retention\":\"limits\","
+                "\"max_consumers\":-1,\"max_msgs\":-1,\"max_bytes\":-1,\"discard\":\"old\",\"max_age\":0,"
+                "\"storage\":\"file\",\"num_replicas\":%u}", shard, shard, c->replicas);
+    ask(c, shard, "CREATE", text);
+}
+
+/* Why the servers have no such stream. */
+static void report_unmade(struct nats_carrier *c, natsMsg *message, unsigned shard)
+{
+    char name[32], fault[ANSWER];
+    write_whole(name, sizeof name, "KRB_%u", shard);
+    read_description(message, fault);
+    log_fact(LEVEL_ERROR, "stream_unmade", field_text("stream", name), field_number("replicas", c->replicas),
+             field_text("fault", fault), field_text("text", "are there so many nodes? Tried again"));
+}
+
+/* Whether the stream can be the shard. */
+static int is_fit(struct nats_carrier *c, natsMsg *message, unsigned shard)
+{
+    char name[32];
+    jsStreamConfig config = { .Retention = says(message, "\"retention\":\"limits\"") ? js_LimitsPolicy
+                                                                                   : js_WorkQueuePolicy,
+                              .Storage = says(message, "\"storage\":\"file\"") ? js_FileStorage
+                                                                              : js_MemoryStorage };
+    config.MaxMsgsPerSubject = says(message, "\"max_msgs_per_subject\":-1")
+                                   ? -1 : (int64_t)number_after(message, "\"max_msgs_per_subject\":");
+    config.Replicas = (int64_t)number_after(message, "\"num_replicas\":");
+    write_whole(name, sizeof name, "KRB_%u", shard);
+    return nats_judge_stream(c, name, &config) == NATS_OK;
+}
+
+/* Reads the answer to the question about a stream: two that make the same one at once both get it. */
+static void read_stream(struct nats_carrier *c, natsMsg *message, unsigned shard)
+{
+    uint64_t created = read_created(message);
+    if (says(message, "\"error\":")) {
+        c->made[shard].is_known = 0;
+        if (says(message, "\"err_code\":10059")) { /* there is none */
+            make_stream(c, shard);
+            return;
+        }
+        report_unmade(c, message, shard);
+    } else {
+        c->made[shard].is_known = created != 0 && is_fit(c, message, shard);
+        c->made[shard].incarnation = created;
+    }
+    end_question(c, shard);
+    if (c->made[shard].is_known)
+        krbrelay_pause_begin(&c->made[shard].pause, KNOWN, milliseconds());
 }
 
 /* ---- Frames */
@@ -105,13 +234,10 @@ int nats_publish(struct carrier *base, unsigned shard, const char *session, uint
 {
     struct nats_carrier *c = (struct nats_carrier *)base;
     char subject[64], reply[160];
-    uint64_t incarnation;
     natsStatus status;
-    if (nats_make(base, shard, &incarnation) != 0)
-        return CARRIER_FAULT;
     write_whole(subject, sizeof subject, "krb.%u.%s", shard, session);
     write_whole(reply, sizeof reply, "%s.%llu.%u.%lu.%llu", (const char *)c->inbox,
-                (unsigned long long)incarnation, shard, (unsigned long)tag,
+                (unsigned long long)c->made[shard].incarnation, shard, (unsigned long)tag,
                 (unsigned long long)number);
     status = natsConnection_PublishRequest(c->connection, subject, reply, frame, (int)len);
     if (status == NATS_OK)
@@ -121,163 +247,80 @@ int nats_publish(struct carrier *base, unsigned shard, const char *session, uint
 
 /* ---- Confirmations */
 
-/* Reads why the stream took a frame not. */
-static void report_refusal(unsigned shard, char *text)
+/* Reads the answer to one frame: {"stream":"KRB_0","seq":7}, or an error, which isn't counted: 1 if the frame is
+ * confirmed. */
+static int read_answer(natsMsg *message, unsigned shard, struct confirmed *it)
 {
-    char *place = strstr(text, "\"description\":\"");
-    if (place != NULL)
-        place[15 + strcspn(place + 15, "\"")] = 0;
-    log_fact(LEVEL_WARNING, "stream_takes_nothing", field_number("shard", shard),
-             field_text("fault", place != NULL ? place + 15 : ""),
-             field_text("text", "tried again"));
-}
-
-/* The number after a word of a message's bytes; 0 if it isn't there. */
-static uint64_t number_after(natsMsg *message, const char *word)
-{
-    char digits[24];
-    const char *data = natsMsg_GetData(message);
-    size_t len = (size_t)natsMsg_GetDataLength(message), size = strlen(word), left;
-    const char *place = len > 0 ? memmem(data, len, word, size) : NULL;
-    if (place == NULL)
+    char fault[ANSWER];
+    if (says(message, "\"error\"")) {
+        read_description(message, fault);
+        log_fact(LEVEL_WARNING, "stream_takes_nothing", field_number("shard", shard), field_text("fault", fault),
+                 field_text("text", "tried again"));
         return 0;
-    left = len - (size_t)(place + size - data);
-    write_cut(digits, sizeof digits, "%.*s", (int)(left < sizeof digits ? left : sizeof digits - 1),
-              place + size);
-    return strtoull(digits, NULL, 10);
-}
-
-/* Reads the answer to one frame: {"stream":"KRB_0","seq":7}, or an error, which isn't counted. */
-static void read_answer(struct nats_carrier *c, natsMsg *message, const struct nats_answer *of)
-{
-    static const char error[] = "\"error\"";
-    struct nats_answer answer = *of;
-    int len = natsMsg_GetDataLength(message);
-    char text[ANSWER];
-    if (len <= 0 || c->unproved_count == NATS_UNPROVED)
-        return;
-    if (memmem(natsMsg_GetData(message), (size_t)len, error, sizeof error - 1) != NULL) {
-        write_cut(text, sizeof text, "%.*s", len, natsMsg_GetData(message));
-        report_refusal(answer.shard, text);
-        return;
     }
-    answer.it.offset = number_after(message, "\"seq\":");
-    if (answer.it.offset > 0)
-        c->unproved[c->unproved_count++] = answer;
+    it->offset = number_after(message, "\"seq\":");
+    return it->offset > 0;
 }
 
-/* Reads how far a stream goes. What was confirmed before it was asked, and is beyond, is nothing.
- */
-static void read_end(struct nats_carrier *c, natsMsg *message, unsigned shard)
-{
-    uint64_t end = number_after(message, "\"last_seq\":");
-    int i, kept = 0;
-    if (c->made[shard].asked == 0 || end == 0)
-        return;
-    c->made[shard].last = end;
-    c->made[shard].asked = 0;
-    for (i = 0; i < c->unproved_count; i++) {
-        const struct nats_answer *it = &c->unproved[i];
-        if (it->shard != shard || !it->is_asked || it->it.offset <= end)
-            c->unproved[kept++] = *it;
-        else
-            log_fact(LEVEL_WARNING, "confirmation_false", field_number("shard", shard),
-                     field_number("offset", it->it.offset), field_number("end", end),
-                     field_text("text", "the shard has no such offset: ignored"));
-    }
-    c->unproved_count = kept;
-}
-
-static void read_message(struct nats_carrier *c, natsMsg *message)
+/* Reads what came: 1 if it confirms a frame. */
+static int read_message(struct nats_carrier *c, natsMsg *message, struct confirmed *it)
 {
     const char *place = natsMsg_GetSubject(message) + strlen((const char *)c->inbox);
-    struct nats_answer answer = { 0 };
-    unsigned long tag;
+    unsigned long tag, question;
     unsigned long long incarnation, number;
-    if (sscanf(place, ".%llu.%u.%lu.%llu", &incarnation, &answer.shard, &tag, &number) == 4) {
-        answer.it = (struct confirmed){ (uint32_t)tag, number, 0 };
-        if (answer.shard < CARRIER_SHARDS && incarnation == c->made[answer.shard].incarnation)
-            read_answer(c, message, &answer);
-    } else if (sscanf(place, ".%llu.%u.end", &incarnation, &answer.shard) == 2
-               && answer.shard < CARRIER_SHARDS
-               && incarnation == c->made[answer.shard].incarnation) {
-        read_end(c, message, answer.shard);
+    unsigned shard;
+    int used = 0;
+    if (sscanf(place, ".%lu.%u.stream.0%n", &question, &shard, &used) == 2 && used > 0) {
+        if (shard < CARRIER_SHARDS && question == c->made[shard].question)
+            read_stream(c, message, shard);
+        return 0;
     }
-}
-
-/* Asks a shard's stream how far it goes, unless it was asked a moment ago. */
-static void ask_end(struct nats_carrier *c, unsigned shard)
-{
-    char subject[64], reply[160];
-    int i;
-    if (c->made[shard].asked != 0 && nanoseconds() - c->made[shard].asked < SECOND)
-        return;
-    write_whole(subject, sizeof subject, "$JS.API.STREAM.INFO.KRB_%u", shard);
-    write_whole(reply, sizeof reply, "%s.%llu.%u.end.0", (const char *)c->inbox,
-                (unsigned long long)c->made[shard].incarnation, shard);
-    for (i = 0; i < c->unproved_count; i++)
-        c->unproved[i].is_asked |= c->unproved[i].shard == shard;
-    c->made[shard].asked = nanoseconds();
-    if (natsConnection_PublishRequest(c->connection, subject, reply, NULL, 0) != NATS_OK)
-        nats_report("a stream's end", NATS_ERR);
-}
-
-/* Gives what the ends that are known prove, and asks for the others. */
-static int give_proved(struct nats_carrier *c, struct confirmed *list, size_t room)
-{
-    int i, kept = 0, count = 0;
-    for (i = 0; i < c->unproved_count; i++) {
-        const struct nats_answer *it = &c->unproved[i];
-        if ((size_t)count < room && it->it.offset <= c->made[it->shard].last)
-            list[count++] = it->it;
-        else
-            c->unproved[kept++] = *it;
-    }
-    c->unproved_count = kept;
-    for (i = 0; i < kept; i++)
-        if (c->unproved[i].it.offset > c->made[c->unproved[i].shard].last)
-            ask_end(c, c->unproved[i].shard);
-    return count;
+    if (sscanf(place, ".%llu.%u.%lu.%llu", &incarnation, &shard, &tag, &number) != 4
+        || shard >= CARRIER_SHARDS || incarnation != c->made[shard].incarnation)
+        return 0;
+    *it = (struct confirmed){ (uint32_t)tag, number, 0 };
+    return read_answer(message, shard, it);
 }
 
 /* Nobody takes what was published: of which shard isn't told, so each is asked whether it is there.
  */
 static void doubt_all(struct nats_carrier *c)
 {
+    uint64_t now = milliseconds();
     unsigned shard;
-    if (nanoseconds() - c->doubted < DOUBT)
+    if (now - c->doubted < DOUBT)
         return;
-    c->doubted = nanoseconds();
+    c->doubted = now;
     for (shard = 0; shard < CARRIER_SHARDS; shard++)
-        c->made[shard].is_known = 0;
+        if (c->made[shard].is_known && c->made[shard].question == 0)
+            krbrelay_pause_begin(&c->made[shard].pause, 0, now);
 }
 
-/* Reads what is there, after a wait for the first. */
-static void read_messages(struct nats_carrier *c, int milliseconds)
+/* Reads one message, if there is one: whether there was. */
+static int read_one(struct nats_carrier *c, struct confirmed *list, int *count)
 {
-    natsStatus status = NATS_OK;
-    while (status == NATS_OK && c->unproved_count < NATS_UNPROVED) {
-        natsMsg *message = NULL;
-        status = natsSubscription_NextMsg(&message, c->answers, milliseconds);
-        if (status == NATS_OK)
-            read_message(c, message);
-        natsMsg_Destroy(message);
-        milliseconds = 0;
-        if (status == NATS_NO_RESPONDERS) {
-            doubt_all(c);
-            status = NATS_OK;
-        }
-    }
+    natsMsg *message = NULL;
+    natsStatus status = natsSubscription_NextMsg(&message, c->answers, 0);
+    if (status == NATS_OK)
+        *count += read_message(c, message, &list[*count]);
+    natsMsg_Destroy(message);
+    if (status == NATS_NO_RESPONDERS)
+        doubt_all(c);
+    return status == NATS_OK || status == NATS_NO_RESPONDERS;
 }
 
-int nats_confirmed(struct carrier *base, struct confirmed *list, size_t room, int milliseconds)
+/* The library waits by a clock that may be set: so this one looks, and pauses by itself. */
+int nats_confirmed(struct carrier *base, struct confirmed *list, size_t room, int wait)
 {
     struct nats_carrier *c = (struct nats_carrier *)base;
-    int count;
-    read_messages(c, milliseconds);
-    count = give_proved(c, list, room);
-    if (count > 0 || c->unproved_count == 0 || milliseconds == 0)
-        return count;
-    read_messages(c, milliseconds); /* the ends that were asked for */
-    return give_proved(c, list, room);
+    uint64_t end = milliseconds() + (uint64_t)wait;
+    int count = 0, has_more = 1;
+    while (has_more && (size_t)count < room) {
+        has_more = read_one(c, list, &count);
+        if (!has_more && count == 0 && milliseconds() < end) {
+            pause_milliseconds(1);
+            has_more = 1;
+        }
+    }
+    return count;
 }

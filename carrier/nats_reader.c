@@ -12,7 +12,7 @@
 #include <stdio.h>
 #include <string.h>
 
-enum { PATIENCE = 40, RETRY = 100, HEARTBEAT = 500, PENDING = 256 << 20 };
+enum { RETRY = 100, HEARTBEAT = 500, PENDING = 256 << 20 };
 
 static void let_go(struct nats_carrier *c)
 {
@@ -36,23 +36,6 @@ void nats_seek(struct carrier *base, unsigned shard, uint64_t offset)
         c->known = offset;
     c->shard = shard;
     c->after = offset;
-    c->tries = 0;
-}
-
-/* A stream that ends before the offset has lost what it had confirmed. What it has now is read
- * from the beginning then: repeats are refused. It is asked again some times before that, since a
- * server that has just started may not have caught up. */
-static int check_end(struct nats_carrier *c, uint64_t last)
-{
-    if (last >= c->after)
-        return 0;
-    if (++c->tries < PATIENCE)
-        return CARRIER_FAULT;
-    log_fact(LEVEL_WARNING, "shard_lost_frames", field_number("shard", c->shard),
-             field_number("end", last), field_number("offset", c->after),
-             field_text("text", "it ends before: it is read from its beginning"));
-    c->after = 0;
-    return 0;
 }
 
 /* Whether the stream is there, is the one of which offsets are, and doesn't end before. */
@@ -62,8 +45,8 @@ static int check_stream(struct nats_carrier *c)
     natsStatus status = nats_ask_stream(c, c->shard, &info);
     int answer = CARRIER_FAULT;
     if (status == NATS_OK)
-        answer = c->incarnation != 0 && (uint64_t)info->Created != c->incarnation
-                     ? CARRIER_CHANGED : check_end(c, info->State.LastSeq);
+        answer = (c->incarnation != 0 && (uint64_t)info->Created != c->incarnation)
+                         || info->State.LastSeq < c->after ? CARRIER_CHANGED : 0;
     else if (status == NATS_NOT_FOUND && c->incarnation != 0)
         answer = CARRIER_CHANGED;
     else if (status != NATS_NOT_FOUND && status != NATS_ERR)
@@ -115,7 +98,6 @@ static int begin_reading(struct nats_carrier *c)
     }
     __atomic_store_n(&c->is_silent, 0, __ATOMIC_SEQ_CST);
     c->delivered = 0;
-    c->tries = 0;
     return 0;
 }
 

@@ -1,6 +1,6 @@
 /* Receipts over NATS: published at krbr.SHARD.SESSION, where senders hear them at once. The stream
- * KRB_RECEIPTS keeps the last one of each session, for senders that weren't there. A receiver makes
- * it. */
+ * KRB_RECEIPTS keeps the last one of each session: a sender that begins reads them, and asks for no single one. A
+ * receiver makes it. */
 #include "clock.h"
 #include "log.h"
 #include "nats_carrier.h"
@@ -42,8 +42,8 @@ static void check_replicas(struct nats_carrier *c, const jsStreamInfo *info)
              field_text("text", "it has fewer replicas than --replicas asks for: change the stream"));
 }
 
-/* Asks what the stream is, and not again for a while. */
-static natsStatus ask_stream(struct nats_carrier *c)
+/* Asks what the stream is, and how many receipts it keeps, and not again for a while. */
+static natsStatus ask_stream(struct nats_carrier *c, uint64_t *count)
 {
     jsStreamInfo *info = NULL;
     jsOptions options;
@@ -52,28 +52,24 @@ static natsStatus ask_stream(struct nats_carrier *c)
     if (status == NATS_OK)
         status = js_GetStreamInfo(&info, c->js, STREAM, &options, &code);
     nats_note_asked(c, status);
-    if (status == NATS_OK)
+    if (status == NATS_OK) {
         check_replicas(c, info);
+        *count = info->State.Msgs;
+    }
     jsStreamInfo_Destroy(info);
     c->receipts_moment = nanoseconds() + 10 * SECOND;
     return status;
-}
-
-/* What a sender hears of a stream that has too few replicas may be lost with a node: the log says so once. */
-static void look_at_stream(struct nats_carrier *c)
-{
-    if (!c->has_seen_receipts && nanoseconds() >= c->receipts_moment)
-        c->has_seen_receipts = ask_stream(c) == NATS_OK;
 }
 
 /* Makes the stream, unless it is there, and looks for it again after a while: what is published
  * meanwhile is heard all the same. */
 static void make_stream(struct nats_carrier *c)
 {
+    uint64_t count = 0;
     natsStatus status;
     if (nanoseconds() < c->receipts_moment)
         return;
-    status = ask_stream(c);
+    status = ask_stream(c, &count);
     if (status == NATS_NOT_FOUND)
         status = add_stream(c);
     if (status != NATS_OK)
@@ -106,18 +102,74 @@ static void give(natsMsg *message, carrier_receipt *take, void *given)
         take(given, name + 1, receipt, (size_t)natsMsg_GetDataLength(message));
 }
 
-static natsStatus begin_to_hear(struct nats_carrier *c)
+/* A consumer of the last receipt of each session. */
+static natsStatus subscribe(struct nats_carrier *c, natsSubscription **reader)
 {
-    natsStatus status = NATS_OK;
-    if (c->receipts == NULL)
-        status = natsConnection_SubscribeSync(&c->receipts, c->connection, "krbr.*.*");
+    jsSubOptions options;
+    jsOptions wait;
+    jsErrCode code = 0;
+    natsStatus status = jsSubOptions_Init(&options);
+    if (status == NATS_OK)
+        status = jsOptions_Init(&wait);
+    if (status != NATS_OK)
+        return status;
+    wait.Wait = 2 * c->patience;
+    options.Stream = STREAM;
+    options.Config.DeliverPolicy = js_DeliverLastPerSubject;
+    options.Config.AckPolicy = js_AckNone;
+    options.Config.MemoryStorage = true;
+    options.Config.Replicas = 1;
+    return js_SubscribeSync(reader, c->js, "krbr.*.*", &wait, &options, &code);
+}
+
+/* How many messages come after one of a consumer. */
+static uint64_t left_after(natsMsg *message)
+{
+    jsMsgMetaData *meta = NULL;
+    uint64_t left = natsMsg_GetMetaData(&meta, message) == NATS_OK ? meta->NumPending : 0;
+    jsMsgMetaData_Destroy(meta);
+    return left;
+}
+
+/* Passes those that are kept, of which there are some. */
+static natsStatus read_kept(struct nats_carrier *c, carrier_receipt *take, void *given)
+{
+    natsSubscription *reader = NULL;
+    natsStatus status = subscribe(c, &reader);
+    uint64_t left = status == NATS_OK;
+    while (status == NATS_OK && left > 0) {
+        natsMsg *message = NULL;
+        status = natsSubscription_NextMsg(&message, reader, 2 * c->patience);
+        if (status == NATS_OK) {
+            give(message, take, given);
+            left = left_after(message);
+        }
+        natsMsg_Destroy(message);
+    }
+    (void)natsSubscription_Unsubscribe(reader); /* servers forget it without, after a while */
+    natsSubscription_Destroy(reader);
     return status;
+}
+
+/* Begins to hear them, and reads what is kept: without it a sender hears what it needs by its probes. */
+static natsStatus begin_to_hear(struct nats_carrier *c, carrier_receipt *take, void *given)
+{
+    natsStatus status = natsConnection_SubscribeSync(&c->receipts, c->connection, "krbr.*.*"), kept;
+    uint64_t count = 0;
+    if (status != NATS_OK)
+        return status;
+    kept = ask_stream(c, &count);
+    if (kept == NATS_OK && count > 0)
+        kept = read_kept(c, take, given);
+    if (kept != NATS_OK && kept != NATS_NOT_FOUND)
+        (void)nats_report("the last receipts", kept); /* CARRIER_FAULT, as for each fault */
+    return NATS_OK;
 }
 
 int nats_receipts(struct carrier *base, carrier_receipt *take, void *given)
 {
     struct nats_carrier *c = (struct nats_carrier *)base;
-    natsStatus status = begin_to_hear(c);
+    natsStatus status = c->receipts == NULL ? begin_to_hear(c, take, given) : NATS_OK;
     while (status == NATS_OK) {
         natsMsg *message = NULL;
         status = natsSubscription_NextMsg(&message, c->receipts, 0);
@@ -126,27 +178,4 @@ int nats_receipts(struct carrier *base, carrier_receipt *take, void *given)
         natsMsg_Destroy(message);
     }
     return status == NATS_TIMEOUT ? 0 : nats_report("receipts", status);
-}
-
-int nats_last_receipt(struct carrier *base, unsigned shard, const char *session,
-                      carrier_receipt *take, void *given)
-{
-    struct nats_carrier *c = (struct nats_carrier *)base;
-    char subject[64];
-    natsMsg *message = NULL;
-    jsOptions options;
-    jsErrCode code = 0;
-    natsStatus status = nats_begin_to_ask(c, &options);
-    write_whole(subject, sizeof subject, "krbr.%u.%s", shard, session);
-    if (status == NATS_OK)
-        status = js_GetLastMsg(&message, c->js, STREAM, subject, &options, &code);
-    nats_note_asked(c, status);
-    if (status == NATS_OK)
-        give(message, take, given);
-    natsMsg_Destroy(message);
-    if (status == NATS_OK || status == NATS_NOT_FOUND || code == JSStreamNotFoundErr) {
-        look_at_stream(c);
-        return 0;
-    }
-    return nats_report("the last receipt of a session", status);
 }

@@ -53,6 +53,7 @@ static const char tables[] =
     " wrapping INTEGER NOT NULL, key BLOB NOT NULL, UNIQUE (stream, turn)) WITHOUT ROWID;"
     "CREATE TABLE IF NOT EXISTS owner (one INTEGER PRIMARY KEY CHECK (one = 1),"
     " turn INTEGER NOT NULL);"
+    "CREATE INDEX IF NOT EXISTS text_of ON text (session);"
     "INSERT OR IGNORE INTO owner (one, turn) VALUES (1, 0)";
 
 /* Columns that files of an older version don't have. */
@@ -61,6 +62,9 @@ static const char *const columns[][2] = {
     { "session", "incarnation INTEGER NOT NULL DEFAULT 0" },
     { "session", "done INTEGER NOT NULL DEFAULT -1" },
     { "session", "history TEXT NOT NULL DEFAULT ''" },
+    { "session", "stands INTEGER NOT NULL DEFAULT 0" },
+    { "session", "stood INTEGER NOT NULL DEFAULT 0" },
+    { "frame", "history BLOB NOT NULL DEFAULT x''" },
     { "text", "since INTEGER NOT NULL DEFAULT 0" },
     { "owner", "renewed INTEGER NOT NULL DEFAULT 0" },
 };
@@ -69,12 +73,17 @@ static const char *const columns[][2] = {
 
 static const char *const sql[OUTBOX_STATEMENTS] = {
     [LOAD_SESSION] = ("SELECT next, carried, at, incarnation, shard, iif(done < 0, carried, done),"
-                      " history FROM session WHERE name = ?"),
+                      " history, stands FROM session WHERE name = ?"),
     [SELECT_TEXTS] = ("SELECT id, session, body FROM text WHERE id > ? AND id <= ? ORDER BY id"
                       " LIMIT ?"),
+    [SELECT_WAITING] = ("SELECT id, session, body FROM text WHERE session = ? AND id <= ? ORDER BY id"
+                        " LIMIT ?"),
     [HAS_TEXT] = "SELECT 1 FROM text WHERE id > ? LIMIT 1",
     [DROP_TEXTS] = "DELETE FROM text WHERE id >= ? AND id <= ?",
-    [ADD_FRAME] = "INSERT INTO frame VALUES (?, ?, ?)",
+    [ADD_FRAME] = "INSERT INTO frame (session, number, frame, history) VALUES (?, ?, ?, ?)",
+    [SELECT_HISTORY] = "SELECT history FROM frame WHERE session = ? AND number = ?",
+    [SET_STANDS] = ("UPDATE session SET stands = ?1, stood = iif(?1 = 0, 0, CAST(strftime('%s') AS INTEGER))"
+                    " WHERE name = ?2"),
     [SELECT_FRAMES] = ("SELECT number, frame FROM frame WHERE session = ? AND number >= ?"
                        " ORDER BY number LIMIT ?"),
     [DROP_FRAMES] = "DELETE FROM frame WHERE session = ? AND number < ?",
@@ -187,7 +196,7 @@ int outbox_load(struct outbox *o, const struct session *session, struct outbox_p
     row = step_row(select);
     *it = (struct outbox_progress){ session->first, session->first - session->has_opening, 0, 0,
                                     session->first - session->has_opening,
-                                    (int32_t)session->shard, { .is_known = 0 } };
+                                    (int32_t)session->shard, KRBRELAY_STANDS_NOT, { .is_known = 0 } };
     if (row == 1) {
         it->next = (uint64_t)sqlite3_column_int64(select->at, 0);
         it->carried = (uint64_t)sqlite3_column_int64(select->at, 1);
@@ -196,6 +205,7 @@ int outbox_load(struct outbox *o, const struct session *session, struct outbox_p
         it->shard = sqlite3_column_int(select->at, 4);
         it->done = (uint64_t)sqlite3_column_int64(select->at, 5);
         history_read(&it->history, (const char *)sqlite3_column_text(select->at, 6));
+        it->stands = (uint32_t)sqlite3_column_int(select->at, 7);
     }
     if (it->done <= session->first) /* no frame: an opening is none of them */
         it->history = (struct history){ .is_known = 1 };
@@ -289,9 +299,9 @@ void outbox_select_texts(struct outbox *o, sqlite3_int64 after, sqlite3_int64 to
     bind_number(&o->statements[SELECT_TEXTS], 3, (sqlite3_int64)limit);
 }
 
-int outbox_next_text(struct outbox *o, struct waiting_text *text)
+/* The next row of texts. */
+static int next_text(struct statement *select, struct waiting_text *text)
 {
-    struct statement *select = &o->statements[SELECT_TEXTS];
     int row = step_row(select);
     if (row != 1)
         return row;
@@ -304,9 +314,31 @@ int outbox_next_text(struct outbox *o, struct waiting_text *text)
     return text->session != NULL ? 1 : -1;
 }
 
+int outbox_next_text(struct outbox *o, struct waiting_text *text)
+{
+    return next_text(&o->statements[SELECT_TEXTS], text);
+}
+
 void outbox_end_texts(struct outbox *o)
 {
     end_rows(&o->statements[SELECT_TEXTS]);
+}
+
+void outbox_select_waiting(struct outbox *o, const char *name, sqlite3_int64 to, size_t limit)
+{
+    bind_text(&o->statements[SELECT_WAITING], 1, name);
+    bind_number(&o->statements[SELECT_WAITING], 2, to);
+    bind_number(&o->statements[SELECT_WAITING], 3, (sqlite3_int64)limit);
+}
+
+int outbox_next_waiting(struct outbox *o, struct waiting_text *text)
+{
+    return next_text(&o->statements[SELECT_WAITING], text);
+}
+
+void outbox_end_waiting(struct outbox *o)
+{
+    end_rows(&o->statements[SELECT_WAITING]);
 }
 
 int outbox_drop_texts(struct outbox *o, sqlite3_int64 first, sqlite3_int64 last)
@@ -317,12 +349,13 @@ int outbox_drop_texts(struct outbox *o, sqlite3_int64 first, sqlite3_int64 last)
 }
 
 int outbox_add_frame(struct outbox *o, const char *session, uint64_t number, const uint8_t *frame,
-                     size_t len)
+                     size_t len, const struct history *history)
 {
     struct statement *add = &o->statements[ADD_FRAME];
     bind_text(add, 1, session);
     bind_number(add, 2, (sqlite3_int64)number);
     bind_bytes(add, 3, frame, len);
+    bind_bytes(add, 4, history->bytes, history->is_known ? sizeof history->bytes : 0);
     return step_once(add);
 }
 
@@ -431,8 +464,9 @@ void outbox_end_frames(struct outbox *o)
     end_rows(&o->statements[SELECT_FRAMES]);
 }
 
-void outbox_add_history(struct outbox *o, const char *session, uint64_t from, uint64_t to,
-                        struct history *history)
+/* Adds the frames of a session from a number up to another. */
+static void add_frames(struct outbox *o, const char *session, uint64_t from, uint64_t to,
+                       struct history *history)
 {
     const uint8_t *frame;
     uint64_t number;
@@ -443,4 +477,40 @@ void outbox_add_history(struct outbox *o, const char *session, uint64_t from, ui
             || history_add(history, frame, len) != 0)
             history->is_known = 0;
     outbox_end_frames(o);
+}
+
+/* The history beside a frame, if there is one. */
+static int read_history(struct outbox *o, const char *session, uint64_t number, struct history *history)
+{
+    struct statement *select = &o->statements[SELECT_HISTORY];
+    bind_text(select, 1, session);
+    bind_number(select, 2, (sqlite3_int64)number);
+    history->is_known = step_row(select) == 1
+                        && sqlite3_column_bytes(select->at, 0) == (int)sizeof history->bytes;
+    if (history->is_known)
+        memcpy(history->bytes, sqlite3_column_blob(select->at, 0), sizeof history->bytes);
+    end_rows(select);
+    return history->is_known;
+}
+
+struct history outbox_history(struct outbox *o, const struct session *session, uint64_t from,
+                              const struct history *history, uint64_t to)
+{
+    struct history found = { .is_known = 1 };
+    if (to <= session->first)
+        return found; /* of no frames: an opening is none of them */
+    if (to <= from)
+        return *history;
+    if (read_history(o, session->name, to - 1, &found))
+        return found;
+    found = *history;
+    add_frames(o, session->name, from > session->first ? from : session->first, to, &found);
+    return found;
+}
+
+int outbox_set_stands(struct outbox *o, const char *session, uint32_t stands)
+{
+    bind_number(&o->statements[SET_STANDS], 1, stands);
+    bind_text(&o->statements[SET_STANDS], 2, session);
+    return step_once(&o->statements[SET_STANDS]);
 }

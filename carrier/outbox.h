@@ -7,7 +7,7 @@
  * refused at its insertion, and so is one for which there is no room (outbox_bound). The table `stopped` has each session that waits for somebody to do
  * something, and the reason; a sender that starts empties it and tries again.
  *
- * A text of a session with receipts is in the table `sealed` from then on, under the same id, with the
+ * A text is in the table `sealed` from then on, under the same id, with the
  * number and the part under which it takes effect, until a receipt says that it did. So a text that is
  * in neither table took effect.
  *
@@ -24,7 +24,6 @@
 #include "database.h"
 #include "history.h"
 #include "opening.h"
-#include "progress.h"
 #include "sessions.h"
 
 /* tables/limits.toml: limits, by tools/tables */
@@ -33,7 +32,8 @@
 /* end of limits */
 
 enum outbox_statement {
-    LOAD_SESSION, SELECT_TEXTS, HAS_TEXT, DROP_TEXTS, ADD_FRAME, SELECT_FRAMES, DROP_FRAMES,
+    LOAD_SESSION, SELECT_TEXTS, SELECT_WAITING, HAS_TEXT, DROP_TEXTS, ADD_FRAME, SELECT_FRAMES, DROP_FRAMES,
+    SELECT_HISTORY, SET_STANDS,
     ADD_SEALED, DROP_SEALED,
     SET_NEXT, SET_CARRIED, SELECT_OWNER, SELECT_SENDING, ADD_STOPPED, DROP_STOPPED, END_STOPPED,
     COUNT_STOPPED, COUNT_TEXTS,
@@ -56,13 +56,13 @@ enum outbox_answer { OUTBOX_OK = 0, OUTBOX_AGAIN = 1, OUTBOX_FAULT = -1, OUTBOX_
 /* What waits: body is NULL for the close. Valid until the next call. */
 struct waiting_text { sqlite3_int64 id; const char *session; const uint8_t *body; size_t len; };
 
-/* How far a session is: next, carried and at as in progress.h; `at` is an offset of the list of
- * this shard with this incarnation (carrier.h); a shard of -1, an incarnation of 0: it isn't
- * known. All below `done` took effect, as receipts say, or, without receipts, is carried; `history` is
- *that of the frames below `done` (history.h). */
+/* How far a session is, as krbrelay_sending_load takes it: `at` is an offset of the list of this shard with this
+ * incarnation (carrier.h); a shard of -1, an incarnation of 0: it isn't known. All below `done` took effect, as
+ * receipts say; `history` is that of the frames below `done` (history.h). */
 struct outbox_progress {
     uint64_t next, carried, at, incarnation, done;
     int32_t shard;
+    uint32_t stands; /* KRBRELAY_STANDS_* */
     struct history history;
 };
 
@@ -108,10 +108,16 @@ void outbox_select_texts(struct outbox *outbox, sqlite3_int64 after, sqlite3_int
                          size_t limit);
 int outbox_next_text(struct outbox *outbox, struct waiting_text *text);
 void outbox_end_texts(struct outbox *outbox);
+
+/* The same of the texts under this name up to one of them, the oldest first. */
+void outbox_select_waiting(struct outbox *outbox, const char *name, sqlite3_int64 to, size_t limit);
+int outbox_next_waiting(struct outbox *outbox, struct waiting_text *text);
+void outbox_end_waiting(struct outbox *outbox);
 int outbox_drop_texts(struct outbox *outbox, sqlite3_int64 first, sqlite3_int64 last);
 
+/* Adds a frame, with the history of the session up to it. */
 int outbox_add_frame(struct outbox *outbox, const char *session, uint64_t number,
-                     const uint8_t *frame, size_t len);
+                     const uint8_t *frame, size_t len, const struct history *history);
 
 /* Stores that a text is sealed under this number, as this part of the record. */
 int outbox_add_sealed(struct outbox *outbox, sqlite3_int64 text, const char *session,
@@ -172,9 +178,13 @@ void outbox_select_frames(struct outbox *outbox, const char *session, uint64_t f
 int outbox_next_frame(struct outbox *outbox, uint64_t *number, const uint8_t **frame, size_t *len);
 void outbox_end_frames(struct outbox *outbox);
 
-/* Adds the frames of a session from a number up to another to a history, which isn't known any more if
- * one of them isn't there. */
-void outbox_add_history(struct outbox *outbox, const char *session, uint64_t from, uint64_t to,
-                        struct history *history);
+/* The history of all frames of a session below a number: it stands beside the last of them, or, where an older
+ * version sealed that, follows from that of those below `from` and the frames since. It isn't known if one of
+ * them isn't there. */
+struct history outbox_history(struct outbox *outbox, const struct session *session, uint64_t from,
+                              const struct history *history, uint64_t to);
+
+/* In a transaction: why a session stands now, KRBRELAY_STANDS_*. */
+int outbox_set_stands(struct outbox *outbox, const char *session, uint32_t stands);
 
 #endif

@@ -186,10 +186,7 @@ static int begin(struct store *base, unsigned shard, const struct reached *from,
         return -1;
     if (ask_values(s, "move_shard", &v, ONE_ROW) != 0)
         return -1;
-    if (store_is_other(from, to) && (ask(s, "reset_sessions", 1, v.at, NULL, NULL, ANY_ROWS) != 0
-                                     || ask(s, "find_all", 1, v.at, NULL, NULL, ANY_ROWS) != 0))
-        return -1;
-    return 0;
+    return store_is_other(from, to) ? ask(s, "reset_sessions", 1, v.at, NULL, NULL, ANY_ROWS) : 0;
 }
 
 static int advance(struct store *base, const char *session, const struct demand *from,
@@ -204,22 +201,6 @@ static int advance(struct store *base, const char *session, const struct demand 
     if (!from->is_stored)
         return ask_values(s, "add_session", &v, ONE_ROW);
     return ask_values(s, "move_session", &v, ONE_ROW);
-}
-
-static int pass(struct store *base, unsigned shard, const char *session, uint64_t offset)
-{
-    struct values v = { .count = 1, .at = { session } };
-    add_number(&v, shard);
-    add_number(&v, offset);
-    add_number(&v, STORE_NOTED);
-    return ask_values((struct postgresql_store *)base, "pass_session", &v, ANY_ROWS);
-}
-
-static int find(struct store *base, unsigned shard, const char *session)
-{
-    struct values v = { .count = 1, .at = { session } };
-    add_number(&v, shard);
-    return ask_values((struct postgresql_store *)base, "find_session", &v, ANY_ROWS);
 }
 
 /* After a fault the connection isn't used any more: what is left of the answers doesn't matter. */
@@ -415,31 +396,6 @@ static int sessions(struct store *base, const char *const *names, size_t count, 
     return answer;
 }
 
-static int standing(struct store *base, unsigned shard, store_take *take, void *given)
-{
-    char text[24];
-    write_whole(text, sizeof text, "%u", shard);
-    return take_rows(query((struct postgresql_store *)base,
-                           "SELECT next, closed, missed, at, shard, name, history FROM session"
-                           " WHERE shard = $1 AND missed <> 0", text), take, given);
-}
-
-static int passed(struct store *base, unsigned shard, store_note *take, void *given)
-{
-    char text[24];
-    PGresult *result;
-    int row, answer = 0;
-    write_whole(text, sizeof text, "%u", shard);
-    result = query((struct postgresql_store *)base,
-                   "SELECT at, session FROM passed WHERE shard = $1", text);
-    if (result == NULL)
-        return -1;
-    for (row = 0; answer == 0 && row < PQntuples(result); row++)
-        answer = take(given, PQgetvalue(result, row, 1), number_at(result, row, 0)) != 0 ? -1 : 0;
-    PQclear(result);
-    return answer;
-}
-
 static int take_columns(const PGresult *result, int row, store_row *take, void *given)
 {
     const char *columns[STORE_COLUMNS];
@@ -494,11 +450,7 @@ static const char tables[] =
     " AND attname = 'history') THEN"
     " ALTER TABLE session ADD COLUMN IF NOT EXISTS since bigint NOT NULL DEFAULT 0,"
     " ADD COLUMN IF NOT EXISTS history text NOT NULL DEFAULT '';"
-    " END IF; IF to_regclass('standing') IS NULL THEN"
-    " CREATE INDEX standing ON session (shard) WHERE missed <> 0;"
-    " END IF; END $$;"
-    "CREATE TABLE IF NOT EXISTS passed (shard int NOT NULL, session text NOT NULL,"
-    " at bigint NOT NULL, PRIMARY KEY (shard, session));";
+    " END IF; END $$;";
 
 static const char opened_columns[] =
     "DO $$ BEGIN IF NOT EXISTS (SELECT FROM pg_attribute WHERE attrelid = 'opened'::regclass"
@@ -547,12 +499,6 @@ static int prepare_all(struct postgresql_store *s)
           " next = $2, closed = $3::int, missed = $4,"
           " at = $5::bigint, shard = $6::int, history = $12 WHERE name = $1 AND next = $7::bigint"
           " AND closed = $8::int AND missed = $9::int AND at = $10::bigint AND shard = $11::int" },
-        { "pass_session",
-          "INSERT INTO passed SELECT $2::int, CASE WHEN (SELECT count(*) FROM passed"
-          " WHERE shard = $2) < $4::bigint THEN $1 ELSE '' END, $3::bigint"
-          " ON CONFLICT DO NOTHING" },
-        { "find_session", "DELETE FROM passed WHERE session = $1 AND shard = $2::int" },
-        { "find_all", "DELETE FROM passed WHERE shard = $1::int" },
         { "reset_sessions", "UPDATE session SET at = 0, missed = 0 WHERE shard = $1::int" },
     };
     unsigned i;
@@ -569,12 +515,8 @@ struct store *postgresql_store_open(const char *where)
         return NULL;
     s->base.reached = reached;
     s->base.sessions = sessions;
-    s->base.standing = standing;
-    s->base.passed = passed;
     s->base.begin = begin;
     s->base.advance = advance;
-    s->base.pass = pass;
-    s->base.find = find;
     s->base.commit = commit;
     s->base.rollback = rollback;
     s->base.close = close_it;

@@ -1,229 +1,329 @@
-/* Publishes the frames of the outbox until they are carried (progress.h). A session whose frame the
- * carrier won't have is stopped, one that fails waits for a moment, and the others go on. */
+/* Does what krb_engine says of each session: publishes frames, and a session's last one again, wakes at a time. A
+ * session whose frame the carrier won't have is stopped, and the others go on. */
 #include "clock.h"
 #include "log.h"
 #include "sender.h"
 #include "text.h"
 
-#include <stdio.h>
+#include <stdlib.h>
 
-enum { COUNTED = 512 };
+enum {
+    COUNTED = 512,  /* confirmations that are taken at once */
+    STORED = 512,   /* frames of a session that are stored, and not carried, at most: one sync stores many. How
+                     * many of them leave is krb_engine's */
+    SERVED = 256,   /* services of one turn, */
+    LEFT = 1024,    /* and frames that leave in one */
+    HELD = 100      /* milliseconds until a session that is held is looked at again */
+};
 
-#define MOMENT UINT64_C(100000000) /* nanoseconds until a session that failed is tried again */
+/* ---- What is counted */
 
-/* ---- What of a session doesn't wait for the carrier */
-
-/* Whether its frames are counted in its shard's backlog. */
-static int counts(const struct sending *it)
+/* Whether its frames leave. */
+static int leaves(const struct sending *it)
 {
-    return !it->is_blocked && !it->is_held;
+    return it->stopped_at != 1 && !it->is_held && (it->begun == NULL || it->is_stored);
 }
 
-static size_t backlog_of(const struct sending *it)
+static void count(uint64_t *of_lane, uint64_t *of_all, uint64_t *of, uint64_t now)
 {
-    return (size_t)(it->progress.next - it->progress.carried);
+    *of_lane = *of_lane - *of + now;
+    *of_all = *of_all - *of + now;
+    *of = now;
 }
 
-void publish_block(struct sender *s, struct sending *it)
+/* What is counted of a session is counted anew: 1 if there is something to do. */
+static int count_anew(struct sender *s, struct sending *it)
 {
-    /* Its frames don't keep the window of its shard from the others. */
-    s->lanes[it->lane].backlog -= counts(it) ? backlog_of(it) : 0;
-    it->is_blocked = 1;
+    const struct krbrelay_progress *progress = &it->end.progress;
+    struct lane *lane = &s->lanes[it->lane];
+    uint64_t under_way = 0, room = 0, stored = progress->next - progress->carried;
+    uint32_t settled = 1, stands = KRBRELAY_STANDS_NOT;
+    if (krbrelay_sending_state(&it->end, &under_way, &room, &settled, &stands) != KRBRELAY_OK
+        || krbrelay_flow_moved(&lane->flow, it->under_way, under_way) != KRBRELAY_OK)
+        return 0; /* never: the numbers are the engine's own */
+    it->under_way = under_way;
+    it->room = it->stopped_at == 1 || stored > STORED ? 0 : STORED - stored;
+    count(&lane->uncarried, &s->uncarried, &it->uncarried, leaves(it) ? progress->next - progress->carried : 0);
+    count(&lane->unreceipted, &s->unreceipted, &it->unreceipted,
+          it->stopped_at != 1 ? progress->carried - it->end.done : 0);
+    return !settled && it->stopped_at != 1;
 }
 
-void publish_restart(struct sender *s, struct sending *it)
+static void note_sealable(struct sender *s, struct sending *it)
 {
-    size_t before = backlog_of(it);
-    if (progress_restart(&it->progress, it->done) != 0)
-        return; /* never: what is done isn't beyond what was sealed */
-    it->kept.carried = UINT64_MAX; /* so that it is stored */
-    s->lanes[it->lane].backlog += counts(it) ? backlog_of(it) - before : 0;
-}
-
-void publish_note_done(struct sender *s, struct sending *it)
-{
-    struct progress *progress = &it->progress;
-    size_t before = backlog_of(it);
-    sender_activate(s, it); /* so that it is stored */
-    if (it->done <= progress->carried)
+    if (!it->has_texts || it->room < STORED / 2 || it->is_sealable)
         return;
-    progress->carried = it->done;
-    progress->sent = progress->sent > it->done ? progress->sent : it->done;
-    progress->moved = nanoseconds();
-    s->lanes[it->lane].backlog -= counts(it) ? before - backlog_of(it) : 0;
+    it->is_sealable = 1;
+    s->sealable.at[s->sealable.count++] = it;
 }
 
-/* ---- Publishing */
-
-/* The shard's list, unless the carrier has none now. If it isn't the one in which the session's
- * frames were counted, all offsets begin anew, and what isn't carried is published again. */
-static int find_list(struct sender *s, struct sending *it)
+void publish_note(struct sender *s, struct sending *it)
 {
-    uint64_t list = s->lanes[it->lane].incarnation;
-    int is_other = it->kept.shard >= 0 && it->kept.shard != (int32_t)it->of.shard;
-    if (list == 0)
-        return 0;
-    if (it->kept.incarnation == list && !is_other)
-        return 1;
-    if (it->kept.incarnation != 0 || is_other) {
-        log_fact(LEVEL_WARNING, "session_elsewhere", field_text("session", it->of.name),
-                 field_number("shard", it->of.shard),
-                 field_text("text", "its shard is another list than before: what isn't carried is"
-                                    " published there"));
-        if (it->of.has_back) /* what it confirmed may be lost with it */
-            publish_restart(s, it);
-        else if (progress_begin_again(&it->progress) != 0)
-            return 0;
-        it->kept.carried = UINT64_MAX; /* so that it is stored */
-    }
-    it->kept.incarnation = list;
-    it->kept.shard = (int32_t)it->of.shard;
-    return 1;
+    struct lane *lane = &s->lanes[it->lane];
+    int has_work = count_anew(s, it);
+    note_sealable(s, it);
+    if (has_work && krbrelay_queue_ready(&lane->queue, it->place) != KRBRELAY_OK)
+        log_system("out_of_memory", "sender"); /* its next event makes it ready */
 }
 
-/* What the carrier answered to a frame that it didn't take. */
-static int put_off(struct sender *s, struct sending *it, int answer, uint64_t number)
+void publish_stop(struct sender *s, struct sending *it)
 {
-    it->moment = nanoseconds() + MOMENT;
-    if (answer != CARRIER_REFUSED)
-        return -1;
-    publish_block(s, it);
+    if (it->stopped_at != 1)
+        s->untold.at[s->untold.count++] = it;
     it->stopped_at = 1;
+    s->held -= it->is_held != 0;
+    it->is_held = 0;
+    (void)count_anew(s, it); /* there is nothing to do any more */
+}
+
+/* ---- Times: a heap, whose first is the next. A session has one that counts, and perhaps older ones. */
+
+static void swap(struct wake *one, struct wake *other)
+{
+    struct wake kept = *one;
+    *one = *other;
+    *other = kept;
+}
+
+/* Looks at the session at this time, or sooner. */
+static void wake_at(struct sender *s, struct sending *it, uint64_t at)
+{
+    size_t i = s->wake_count;
+    if (at >= it->wakes)
+        return;
+    if (s->wake_count == s->wake_room) {
+        size_t room = 2 * s->wake_room + 64;
+        struct wake *more = realloc(s->wakes, room * sizeof *more);
+        if (more == NULL) {
+            log_system("out_of_memory", "sender"); /* its next event looks at it */
+            return;
+        }
+        s->wakes = more;
+        s->wake_room = room;
+    }
+    it->wakes = at;
+    s->wakes[s->wake_count++] = (struct wake){ at, it };
+    for (; i > 0 && s->wakes[(i - 1) / 2].at > at; i = (i - 1) / 2)
+        swap(&s->wakes[i], &s->wakes[(i - 1) / 2]);
+}
+
+/* Takes the first. */
+static struct wake first_wake(struct sender *s)
+{
+    struct wake first = s->wakes[0];
+    size_t i = 0, least = 0;
+    s->wakes[0] = s->wakes[--s->wake_count];
+    do {
+        size_t left = 2 * i + 1;
+        swap(&s->wakes[i], &s->wakes[least]);
+        i = least;
+        if (left < s->wake_count && s->wakes[left].at < s->wakes[least].at)
+            least = left;
+        if (left + 1 < s->wake_count && s->wakes[left + 1].at < s->wakes[least].at)
+            least = left + 1;
+    } while (least != i);
+    return first;
+}
+
+/* ---- What leaves */
+
+/* What the carrier answered to a frame that it didn't take. Any other than CARRIER_REFUSED may pass: the frame
+ * isn't confirmed then, and leaves again. */
+static void note_untaken(struct sender *s, struct sending *it, int answer, uint64_t number)
+{
+    if (answer != CARRIER_REFUSED)
+        return;
     write_cut(it->reason, sizeof it->reason, "the carrier doesn't take frame %llu: is it longer"
               " than its Maximum Payload?", (unsigned long long)number);
-    return sender_stop(s, it->of.name, it->reason) == OUTBOX_OK ? 0 : -1;
+    publish_stop(s, it);
+}
+
+static int publish(struct sender *s, struct sending *it, uint64_t number, const uint8_t *frame, size_t len)
+{
+    int answer = carrier_publish(s->carrier, it->of.shard, it->of.name, it->tag, number, frame, len);
+    s->published += answer == 0;
+    if (answer != 0)
+        note_untaken(s, it, answer, number);
+    return answer;
 }
 
 /* Publishes a session's opening, which is made anew each time. */
 static int publish_opening(struct sender *s, struct sending *it)
 {
     size_t len = 0;
-    int answer;
     sender_note_before(s, it);
-    answer = tickets_make_opening(s->tickets, s->kerberos, &it->begun->opened, s->opening,
-                                      OPENING, &len);
-    if (answer == 0)
-        answer = carrier_publish(s->carrier, it->of.shard, it->of.name, it->tag, 0, s->opening, len);
-    if (answer == 0 && progress_publish(&it->progress) == 0)
-        s->published++;
-    return answer;
+    if (tickets_make_opening(s->tickets, s->kerberos, &it->begun->opened, s->opening, OPENING, &len) != 0)
+        return -1;
+    return publish(s, it, 0, s->opening, len);
 }
 
-/* Publishes the frames of a session that weren't. */
-static int publish(struct sender *s, struct sending *it)
+/* Publishes frames of the outbox from a number on. If one isn't there, another process has deleted it: the session
+ * is loaded again. */
+static void publish_frames(struct sender *s, struct sending *it, uint64_t from, uint64_t limit)
 {
-    struct progress *progress = &it->progress;
     const uint8_t *frame;
-    uint64_t number = 0;
+    uint64_t number = 0, end = from + limit;
     size_t len;
     int answer = 0, is_there = 1;
-    if (progress->sent == progress->carried)
-        progress->moved = nanoseconds();
-    if (it->begun != NULL && progress->sent == 0)
+    if (it->begun != NULL && from == 0 && end > 0)
         answer = publish_opening(s, it);
-    if (answer != 0)
-        return put_off(s, it, answer, number);
-    outbox_select_frames(&s->outbox, it->of.name, progress->sent, WINDOW);
-    while (answer == 0 && progress->sent < progress->next
-           && outbox_next_frame(&s->outbox, &number, &frame, &len) == 1) {
-        is_there = number == progress->sent;
-        if (!is_there)
-            break; /* another process has deleted frames: they are carried */
-        answer = carrier_publish(s->carrier, it->of.shard, it->of.name, it->tag, number,
-                                 frame, len);
-        if (answer == 0 && progress_publish(progress) == 0)
-            s->published++;
+    from += it->begun != NULL && from == 0;
+    outbox_select_frames(&s->outbox, it->of.name, from, (unsigned)limit);
+    while (answer == 0 && is_there && from < end) {
+        is_there = outbox_next_frame(&s->outbox, &number, &frame, &len) == 1 && number == from;
+        if (is_there)
+            answer = publish(s, it, from++, frame, len);
     }
     outbox_end_frames(&s->outbox);
-    if (answer != 0)
-        return put_off(s, it, answer, number);
-    return is_there ? 0 : sender_load(s, it);
+    if (!is_there && sender_load(s, it) != 0)
+        log_fact(LEVEL_ERROR, "session_unloaded", field_text("session", it->of.name),
+                 field_text("text", "the outbox has no such frame: tried again"));
 }
 
-/* Whether frames of a session are carried and wait for a receipt. */
-static int waits(const struct sending *it)
+/* Does what the engine says; how many frames left. */
+static uint64_t perform(struct sender *s, struct sending *it, const struct krbrelay_command *command)
 {
-    return it->of.has_back && it->done < it->progress.carried;
+    uint64_t probed = it->end.progress.carried;
+    switch (command->kind) {
+    case KRBRELAY_COMMAND_PUBLISH:
+        s->again += command->number < it->left ? it->left - command->number : 0;
+        it->left = command->number + command->count > it->left ? command->number + command->count : it->left;
+        publish_frames(s, it, command->number, command->count);
+        wake_at(s, it, krbrelay_pause_end(&it->end.again));
+        return command->count;
+    case KRBRELAY_COMMAND_PROBE:
+        s->again++;
+        log_fact(LEVEL_WARNING, "receipts_missing", field_text("session", it->of.name),
+                 field_number("shard", it->of.shard), field_number("done", it->end.done),
+                 field_number("carried", probed),
+                 field_text("text", "no receipt came: the last frame is published again"));
+        if (command->opening && it->begun != NULL && command->number > 0)
+            (void)publish_opening(s, it); /* what isn't taken is probed again */
+        publish_frames(s, it, command->number, 1);
+        wake_at(s, it, krbrelay_pause_end(&it->end.probe));
+        return 1;
+    case KRBRELAY_COMMAND_WAKE:
+        wake_at(s, it, command->at);
+        return 0;
+    default:
+        return 0;
+    }
 }
 
-/* Whether the session still has something to be carried or stored. */
-static int is_active(const struct sending *it)
-{
-    return waits(it) || (it->of.has_back && it->kept.done != it->done)
-           || it->progress.carried < it->progress.next
-           || it->kept.carried != it->progress.carried;
-}
+/* ---- Whose turn it is */
 
 /* Whether a session's opening can't leave now: there is no ticket, or the session of its stream
- * before it isn't carried, whose close has to come before. What waits so doesn't take the window of
- * its shard from the others. Nothing of a session whose row isn't stored leaves. */
+ * before it isn't carried, whose close has to come before. Nothing of a session whose row isn't stored leaves. */
 static int hold(struct sender *s, struct sending *it)
 {
-    size_t *backlog = &s->lanes[it->lane].backlog;
-    size_t frames = backlog_of(it);
-    int is_held = it->progress.sent == 0
+    int is_held = it->end.progress.sent == 0
                   && (!tickets_have(s->tickets) || sender_is_after(s, it));
-    if (is_held && !it->is_held)
-        *backlog -= frames;
-    else if (!is_held && it->is_held)
-        *backlog += frames;
+    s->held += (size_t)(is_held != 0) - (size_t)(it->is_held != 0);
     it->is_held = is_held;
+    if (is_held)
+        wake_at(s, it, milliseconds() + HELD);
     return is_held || !it->is_stored;
 }
 
-static void publish_one(struct sender *s, struct sending *it)
+/* The session's shard has this list now. If it had another one, all that isn't done leaves again. */
+static void tell_list(struct sender *s, struct sending *it, const struct lane *lane)
 {
-    uint64_t patience = s->options.retry * UINT64_C(1000000), now = nanoseconds();
-    if (!it->is_blocked)
-        receipts_look(s, it);
-    if (it->is_blocked || now < it->moment || (it->begun != NULL && hold(s, it))
-        || !find_list(s, it))
+    uint64_t before = it->end.list;
+    uint32_t other = 0;
+    if (krbrelay_sending_listed(&it->end, lane->flow.list, &other) != KRBRELAY_OK || !other)
         return;
-    s->again += progress_rewind(&it->progress, now, patience);
-    if (it->progress.sent == it->progress.next)
-        return;
-    if (!it->is_checked)
-        texts_want(s, it); /* before its frames leave once more, and are the last that the carrier has */
-    else if (publish(s, it) != 0)
-        log_fact(LEVEL_WARNING, "session_unpublished", field_text("session", it->of.name),
-                 field_number("shard", it->of.shard), field_text("text", "tried again"));
+    sender_note_dirty(s, it);
+    if (before != 0 || it->kept.shard != (int32_t)it->of.shard)
+        log_fact(LEVEL_WARNING, "session_elsewhere", field_text("session", it->of.name),
+                 field_number("shard", it->of.shard),
+                 field_text("text", "its shard is another list than before: what has no receipt is"
+                                    " published there"));
 }
 
-static void note_waiting(struct sender *s)
+/* One service of a session: how many frames left. */
+static uint64_t serve(struct sender *s, struct sending *it)
 {
-    size_t i;
-    for (i = 0; i < s->active.count; i++)
-        s->lanes[s->active.at[i]->lane].has_waiting |= waits(s->active.at[i]);
+    struct lane *lane = &s->lanes[it->lane];
+    struct krbrelay_command command = { .kind = KRBRELAY_COMMAND_IDLE };
+    uint64_t room = 0, left;
+    int has_more;
+    if (it->stopped_at == 1 || !lane->flow.has_list)
+        return 0; /* once it has one, all its sessions have their turn */
+    if (it->begun != NULL && hold(s, it)) {
+        (void)count_anew(s, it); /* it waits */
+        return 0;
+    }
+    tell_list(s, it, lane);
+    if (krbrelay_flow_room(&lane->flow, &room) != KRBRELAY_OK
+        || krbrelay_sending_serve(&it->end, room, milliseconds(), &command) != KRBRELAY_OK)
+        return 0; /* never: the numbers are the engine's own */
+    left = perform(s, it, &command);
+    has_more = count_anew(s, it) && left > 0;
+    if (has_more && krbrelay_queue_ready(&lane->queue, it->place) != KRBRELAY_OK)
+        log_system("out_of_memory", "sender"); /* its time comes */
+    return left;
 }
 
-/* Which list each shard is, of those that have frames, or sessions that wait for receipts. */
-static void find_lists(struct sender *s)
+/* Which list each shard is that has something to do. All its sessions hear of another one. */
+static void find_list(struct sender *s, struct lane *lane)
 {
+    uint64_t list = 0;
+    int has_list = carrier_make(s->carrier, lane->shard, &list) == 0 && list != 0;
     size_t i;
-    note_waiting(s);
+    if (has_list == (int)lane->flow.has_list && (!has_list || list == lane->flow.list))
+        return;
+    lane->flow.has_list = (uint32_t)has_list;
+    lane->flow.list = has_list ? list : 0;
+    for (i = 0; i < lane->members.count && has_list; i++)
+        publish_note(s, lane->members.at[i]);
+}
+
+/* Sessions whose time has come. */
+static uint64_t wake(struct sender *s)
+{
+    uint64_t now = milliseconds(), left = 0;
+    while (s->wake_count > 0 && s->wakes[0].at <= now && left < LEFT) {
+        struct wake it = first_wake(s);
+        if (it.it->wakes != it.at)
+            continue;
+        it.it->wakes = UINT64_MAX;
+        left += serve(s, it.it);
+    }
+    return left;
+}
+
+/* Some sessions of a shard, in their turn, while it has room. */
+static uint64_t serve_lane(struct sender *s, struct lane *lane)
+{
+    uint64_t left = 0, room = 0;
+    uint32_t place = 0;
+    unsigned i;
+    for (i = 0; i < SERVED && left < LEFT; i++) {
+        if (krbrelay_flow_room(&lane->flow, &room) != KRBRELAY_OK || room == 0
+            || !krbrelay_queue_serve(&lane->queue, &place))
+            break;
+        left += serve(s, lane->members.at[place]);
+    }
+    return left;
+}
+
+int publish_all(struct sender *s)
+{
+    uint64_t left = wake(s);
+    size_t i;
     for (i = 0; i < s->lane_count; i++) {
-        struct lane *lane = &s->lanes[i];
-        if ((lane->backlog > 0 || lane->has_waiting)
-            && carrier_make(s->carrier, lane->shard, &lane->incarnation) != 0)
-            lane->incarnation = 0;
-        lane->has_waiting = 0;
+        struct lane *lane = &s->lanes[(s->first_lane + i) % s->lane_count];
+        if (krbrelay_queue_len(&lane->queue) == 0 && lane->flow.under_way == 0 && lane->unreceipted == 0)
+            continue;
+        find_list(s, lane);
+        if (left < LEFT)
+            left += serve_lane(s, lane);
     }
+    s->first_lane += s->lane_count > 0; /* another one is the first next time */
+    return left >= LEFT;
 }
 
-void publish_all(struct sender *s)
-{
-    size_t i, kept = 0;
-    find_lists(s);
-    for (i = 0; i < s->active.count; i++)
-        publish_one(s, s->active.at[i]);
-    for (i = 0; i < s->active.count; i++) {
-        struct sending *it = s->active.at[i];
-        it->is_active = is_active(it);
-        if (it->is_active)
-            s->active.at[kept++] = it;
-    }
-    s->active.count = kept;
-}
+/* ---- Confirmations */
 
 /* The session of a confirmation, or NULL: it is of sessions that were forgotten. */
 static struct sending *of_tag(const struct sender *s, uint32_t tag)
@@ -232,49 +332,30 @@ static struct sending *of_tag(const struct sender *s, uint32_t tag)
     return place < s->all.count ? s->all.at[place] : NULL;
 }
 
-size_t publish_count_carried(struct sender *s, int milliseconds)
+/* The next session of the stream may have waited for this one. */
+static void note_next(struct sender *s, const struct sending *it)
+{
+    struct sending *now = it->stream != NULL ? it->stream->now : NULL;
+    if (now != NULL && now != it && now->is_held && it->end.progress.carried == it->end.progress.next)
+        publish_note(s, now);
+}
+
+size_t publish_count_carried(struct sender *s, int milliseconds_to_wait)
 {
     struct confirmed list[COUNTED];
     size_t rose = 0;
-    int i, count = carrier_confirmed(s->carrier, list, COUNTED, milliseconds);
-    for (i = 0; i < count; i++) {
+    int i, found = carrier_confirmed(s->carrier, list, COUNTED, milliseconds_to_wait);
+    for (i = 0; i < found; i++) {
         struct sending *it = of_tag(s, list[i].tag);
+        uint32_t counts = 0;
         if (it == NULL
-            || !progress_confirm(&it->progress, list[i].number, list[i].offset, nanoseconds()))
+            || krbrelay_sending_confirmed(&it->end, list[i].number, list[i].offset, milliseconds(), &counts)
+                   != KRBRELAY_OK || !counts)
             continue;
-        s->lanes[it->lane].backlog -= counts(it) ? 1 : 0;
+        sender_note_dirty(s, it);
+        publish_note(s, it);
+        note_next(s, it);
         rose++;
     }
-    return count == COUNTED ? rose + publish_count_carried(s, 0) : rose;
-}
-
-size_t publish_backlog(const struct sender *s)
-{
-    size_t i, frames = 0;
-    for (i = 0; i < s->active.count; i++) {
-        const struct sending *it = s->active.at[i];
-        if (counts(it))
-            frames += backlog_of(it);
-    }
-    return frames;
-}
-
-uint64_t publish_count_unreceipted(const struct sender *s)
-{
-    size_t i;
-    uint64_t frames = 0;
-    for (i = 0; i < s->active.count; i++) {
-        const struct sending *it = s->active.at[i];
-        if (waits(it))
-            frames += it->progress.carried - it->done;
-    }
-    return frames;
-}
-
-size_t publish_count_held(const struct sender *s)
-{
-    size_t i, count = 0;
-    for (i = 0; i < s->active.count; i++)
-        count += s->active.at[i]->is_held != 0;
-    return count;
+    return found == COUNTED ? rose + publish_count_carried(s, 0) : rose;
 }

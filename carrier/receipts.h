@@ -7,24 +7,35 @@
  * is sealed of what the store has alone, and a lost, repeated, reordered or old one does nothing: the
  * sender keeps the greatest n. A sender whose own frames have another history isn't the one whose frames
  * took effect: its outbox was restored from an older copy, or copied and used twice. It stops the session.
+ * Where nothing took effect, n is the session's first number, and the history that of no frames.
+ *
+ * A receipt that asks for frame n has a byte more, KRBRELAY_ASKS_MISSING or _REFUSED. A sender of an older
+ * version doesn't read such a receipt; those that ask for nothing are as they were for it.
  *
  * A receipt of a receiver of an older version, or of a session that began under one, has no history: it
  * covers numbers, whoever's frames took them.
  *
- * The key of the way back follows from the key of a session that began by a ticket, and is the last
- * word of a line of the file of sessions. A session without one has no receipts. */
+ * The key of the way back follows from the session's key. Of a session that began by a ticket MIT's library
+ * derives it (opening_back). Of a line of the file of sessions it is the last word, or, where that is missing,
+ * the first bytes of the checksums of KRB-SAFE messages under the session's key that nobody sends
+ * (receipt_key). Neither is a key under which anything else is sealed. */
 #ifndef RECEIPTS_H
 #define RECEIPTS_H
 
 #include "history.h"
 #include "sessions.h"
 
-enum { RECEIPT = KRBRELAY_FRAME_SIZE(KRBRELAY_HISTORY_SIZE) }; /* the room for one */
+enum { RECEIPT = KRBRELAY_FRAME_SIZE(KRBRELAY_HISTORY_SIZE + 1) }; /* the room for one */
 
-/* What a receipt says: all below n took effect, and which frames these were. */
-struct receipt { uint64_t n; struct history history; };
+/* What a receipt says: all below n took effect, and which frames these were; and what it asks for,
+ * KRBRELAY_ASKS_*. */
+struct receipt { uint64_t n; struct history history; uint32_t asks; };
 
-/* Seals a receipt, whose n is 1 at least. 0, or -1 with a report. */
+/* Gives a session of the file whose line has no key of the way back the one that follows. 0, or -1 with a
+ * report. */
+int receipt_key(struct session *of);
+
+/* Seals a receipt. 0, or -1 with a report. */
 int receipt_seal(const struct session *of, const struct receipt *receipt, uint8_t frame[RECEIPT],
                  size_t *len);
 

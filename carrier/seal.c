@@ -80,8 +80,10 @@ static enum seal_answer seal(struct sealing *s, struct sending *it, uint32_t kin
     if (answer != KRBRELAY_OK)
         return judge(it, answer);
     s->frames++;
-    return outbox_add_frame(s->outbox, it->of.name, number, s->frame, size) == 0 ? SEAL_OK
-                                                                                 : SEAL_FAULT;
+    if (history_add(&it->history, s->frame, size) != 0)
+        return SEAL_FAULT;
+    return outbox_add_frame(s->outbox, it->of.name, number, s->frame, size, &it->history) == 0 ? SEAL_OK
+                                                                                               : SEAL_FAULT;
 }
 
 /* Room for another text of so many bytes. */
@@ -89,13 +91,13 @@ static int grow(struct sending *it, size_t len)
 {
     size_t wanted = it->size + len + 4;
     uint8_t *more;
-    if (wanted <= it->room)
+    if (wanted <= it->batch_room)
         return 0;
     more = realloc(it->batch, 2 * wanted);
     if (more == NULL)
         return -1;
     it->batch = more;
-    it->room = 2 * wanted;
+    it->batch_room = 2 * wanted;
     return 0;
 }
 
@@ -115,12 +117,10 @@ enum seal_answer seal_rest(struct sealing *s, struct sending *it)
     return answer;
 }
 
-/* Of a session with receipts: the number that this text gets, as this part of its record. */
+/* The number that this text gets, as this part of its record. */
 static enum seal_answer note_sealed(struct sealing *s, const struct sending *it, sqlite3_int64 id,
                                     unsigned part)
 {
-    if (!it->of.has_back)
-        return SEAL_OK;
     return outbox_add_sealed(s->outbox, id, it->of.name, it->sealed, part) == 0 ? SEAL_OK
                                                                                 : SEAL_FAULT;
 }
@@ -157,7 +157,7 @@ enum seal_answer seal_text(struct sealing *s, struct sending *it, const struct w
     if (answer != SEAL_OK)
         return answer;
     if (grow(it, text->len) != 0 ||
-        krbrelay_batch_add(it->batch, it->room, &it->size, text->body, text->len) != KRBRELAY_OK)
+        krbrelay_batch_add(it->batch, it->batch_room, &it->size, text->body, text->len) != KRBRELAY_OK)
         return SEAL_FAULT;
     if (it->texts == 0)
         it->begin = text->id;
@@ -166,11 +166,12 @@ enum seal_answer seal_text(struct sealing *s, struct sending *it, const struct w
 }
 
 /* A sealer doesn't go back: another one is made at the number that is stored. */
-void seal_reset(struct sending *it)
+void seal_reset(struct sending *it, const struct history *history)
 {
-    if (it->sealed != it->progress.next)
+    if (it->sealed != it->end.progress.next)
         krbrelay_sealer_free(&it->sealer);
-    it->sealed = it->progress.next;
+    it->sealed = it->end.progress.next;
+    it->history = *history;
     it->texts = 0;
     it->size = 0;
 }
@@ -180,6 +181,6 @@ void seal_free(struct sending *it)
     krbrelay_sealer_free(&it->sealer);
     krbrelay_opener_free(&it->receipts);
     if (it->batch != NULL)
-        explicit_bzero(it->batch, it->room);
+        explicit_bzero(it->batch, it->batch_room);
     free(it->batch);
 }

@@ -21,27 +21,28 @@ struct sending {
     int is_held;                /* but waits for a ticket, or for the session before, */
     int is_closing;             /* and this transaction closes it, since it is old */
     uint32_t tag;               /* of its frames' confirmations */
-    size_t lane;                /* its shard's place */
+    size_t lane;                /* its shard's place, */
+    uint32_t place;             /* and its own among the shard's sessions */
     struct krbrelay_sealer sealer; /* made with the first text */
-    struct outbox_progress kept;   /* what the outbox has */
-    struct progress progress;
-    uint64_t sealed;            /* the sealer's next number, which is progress.next once stored */
+    struct outbox_progress kept, next_kept; /* what the outbox has, and has after this transaction */
+    struct krbrelay_sending end;   /* how far it is, and why it stands: krb_engine's */
+    uint64_t room;              /* so many frames more may be stored */
+    uint64_t sealed;            /* the sealer's next number, which is end.progress.next once stored, */
+    struct history history;     /* of all frames below it */
     uint8_t *batch;             /* the texts that wait for being sealed together, */
-    size_t size, room;
+    size_t size, batch_room;
     unsigned texts;
     sqlite3_int64 begin;        /* of which this is the first */
     sqlite3_int64 stopped_at;   /* texts from this one on aren't taken; 0: all are */
     char reason[256];
-    int is_checked, is_wanted;  /* texts.c: the carrier has no frame of a later number; is asked */
-    int is_touched, is_active;  /* it is in the lists of sender.h */
-    int is_blocked;             /* publish.c: the carrier won't have its next frame */
-    uint64_t done;              /* all below took effect, as receipts say (sender_receipts.c): */
-    struct history history;     /* that of these frames */
-    uint64_t waited;            /* frames have waited for a receipt since this moment, */
-    unsigned waits;             /* and were published again so often since the last one */
-    int has_asked;              /* the carrier was asked for the last one */
+    int has_texts;              /* texts of it wait, up to those that were looked at: no later one is taken
+                                 * before them */
+    int is_touched, is_dirty, is_sealable; /* it is in the lists of sender.h */
     struct krbrelay_opener receipts; /* made with the first one */
-    uint64_t moment;            /* publish.c: nothing is published before it */
+    uint64_t under_way, uncarried, unreceipted; /* as its shard's sums have them (publish.c) */
+    uint64_t left;              /* the frames below have left before */
+    uint64_t wakes;             /* when it is looked at, in milliseconds; UINT64_MAX: not by itself */
+    uint32_t stands, stands_now; /* why it stands, as the outbox has it, and now: KRBRELAY_STANDS_* */
 };
 
 struct sealing {
@@ -61,8 +62,9 @@ enum seal_answer seal_close(struct sealing *s, struct sending *it, sqlite3_int64
 /* Seals the texts that wait. */
 enum seal_answer seal_rest(struct sealing *s, struct sending *it);
 
-/* Makes the session what it was before the transaction. */
-void seal_reset(struct sending *it);
+/* Makes the session what it was before the transaction: with the history of all frames that the outbox
+ * has. */
+void seal_reset(struct sending *it, const struct history *history);
 
 void seal_free(struct sending *it);
 

@@ -2,7 +2,7 @@
  * is called.
  *
  * It takes texts from the outbox, seals them into frames, which the outbox stores, and publishes
- * these until they are carried (outbox.h, progress.h). It ends with status 3 if another sender has
+ * these until receipts say that they took effect (outbox.h, publish.c). It ends with status 3 if another sender has
  * taken the outbox over. It may be killed at any time: start it again. */
 #include "sender.h"
 #include "clock.h"
@@ -19,7 +19,8 @@
 
 enum {
     IDLE = 20,          /* milliseconds to wait for confirmations, or texts */
-    PAUSE = 100         /* milliseconds after a fault */
+    PAUSE = 100,        /* milliseconds after a fault, */
+    KEPT = 20           /* and between two transactions that store only how far sessions are */
 };
 
 #define SECOND UINT64_C(1000000000) /* in nanoseconds */
@@ -34,10 +35,6 @@ static const char usage[] =
     "  --batch N        so many texts go into a frame at most (1)\n"
     "  --max-waiting N  while so many texts wait, for being sealed or for a receipt, the outbox refuses\n"
     "                   another one with the error `the outbox is full` (0: any number may wait)\n"
-    "  --retry MILLISECONDS  what isn't carried by then is published again (2000): more than the\n"
-    "                   time in which the carrier confirms\n"
-    "  --patience SECONDS  what has no receipt by then is published again (30), then after twice as\n"
-    "                   long each time, up to 32 times: of sessions with receipts\n"
     "  --metrics ADDRESS:PORT  answers GET /metrics (Prometheus's text) and GET /healthz\n"
     "  --drain          ends once all is carried that can be\n"
     KERBEROS_USAGE
@@ -82,11 +79,11 @@ enum outbox_answer sender_end_stop(struct sender *s, const char *session)
     return OUTBOX_AGAIN;
 }
 
-void sender_activate(struct sender *s, struct sending *it)
+void sender_note_dirty(struct sender *s, struct sending *it)
 {
-    if (!it->is_active)
-        s->active.at[s->active.count++] = it;
-    it->is_active = 1;
+    if (!it->is_dirty)
+        s->dirty.at[s->dirty.count++] = it;
+    it->is_dirty = 1;
 }
 
 /* ---- What is stored, in one transaction */
@@ -111,29 +108,34 @@ static enum seal_answer keep_sealed(struct sender *s, struct sending **stopped)
             return answer;
         if (it->begun != NULL && keep_begun(s, it) != 0)
             return SEAL_FAULT;
-        if (it->sealed > it->progress.next
-            && outbox_set_next(&s->outbox, &it->of, it->progress.next, it->sealed) != 0)
+        if (it->sealed > it->end.progress.next
+            && outbox_set_next(&s->outbox, &it->of, it->end.progress.next, it->sealed) != 0)
             return SEAL_FAULT;
     }
     return SEAL_OK;
 }
 
-/* Stores how far the frames are carried. */
-static enum seal_answer keep_carried(struct sender *s)
+/* What is stored of a session that has gone on. */
+static struct outbox_progress reached(struct sender *s, const struct sending *it)
+{
+    const struct krbrelay_sending *end = &it->end;
+    struct outbox_progress now = { .next = it->kept.next, .carried = end->progress.carried, .done = end->done,
+                                   .at = end->progress.at, .incarnation = end->list,
+                                   .shard = (int32_t)it->of.shard };
+    now.history = outbox_history(&s->outbox, &it->of, it->kept.done, &it->kept.history, end->done);
+    return now;
+}
+
+/* Stores how far sessions are. */
+static enum seal_answer keep_dirty(struct sender *s)
 {
     size_t i;
-    for (i = 0; i < s->active.count; i++) {
-        struct sending *it = s->active.at[i];
-        struct outbox_progress now = it->kept;
-        now.carried = it->progress.carried;
-        now.at = it->progress.at;
-        now.done = it->of.has_back ? it->done : it->progress.carried;
-        now.history = it->history;
-        if (!it->of.has_back && now.done > it->of.first)
-            now.history.is_known = 0;
-        if ((it->kept.carried != it->progress.carried || it->kept.done != now.done)
-            && outbox_set_carried(&s->outbox, it->of.name, &now) != 0)
+    for (i = 0; i < s->dirty.count; i++) {
+        struct sending *it = s->dirty.at[i];
+        struct outbox_progress now = reached(s, it);
+        if (outbox_set_carried(&s->outbox, it->of.name, &now) != 0)
             return SEAL_FAULT;
+        it->next_kept = now;
     }
     return SEAL_OK;
 }
@@ -142,75 +144,65 @@ static enum seal_answer keep_carried(struct sender *s)
 static void note_kept(struct sender *s)
 {
     size_t i;
-    for (i = 0; i < s->active.count; i++) {
-        struct sending *it = s->active.at[i];
-        it->kept.carried = it->progress.carried;
-        it->kept.at = it->progress.at;
-        it->kept.done = it->of.has_back ? it->done : it->progress.carried;
-        it->kept.history = it->history;
+    for (i = 0; i < s->dirty.count; i++) {
+        s->dirty.at[i]->kept = s->dirty.at[i]->next_kept;
+        s->dirty.at[i]->is_dirty = 0;
     }
+    s->dirty.count = 0;
     for (i = 0; i < s->touched.count; i++) {
         struct sending *it = s->touched.at[i];
-        if (!it->is_held)
-            s->lanes[it->lane].backlog += (size_t)(it->sealed - it->progress.next);
-        if (progress_store(&it->progress, it->sealed) != 0)
+        if (krbrelay_sending_sealed(&it->end, it->sealed - it->end.progress.next) != KRBRELAY_OK)
             log_fact(LEVEL_ERROR, "progress_unknown", field_text("session", it->of.name),
-                     field_number("next", it->progress.next), field_number("sealed", it->sealed));
-        it->kept.next = it->progress.next;
+                     field_number("next", it->end.progress.next), field_number("sealed", it->sealed));
+        it->kept.next = it->end.progress.next;
         it->is_touched = 0;
         it->is_stored = 1;
         sender_note_renewed(it, 1);
-        sender_activate(s, it);
+        publish_note(s, it);
     }
     s->touched.count = 0;
 }
 
-static void note_looked(const struct sender *s, struct looked *before)
-{
-    size_t i;
-    before->seen = s->seen;
-    for (i = 0; i < s->lane_count; i++)
-        before->deferred[i] = s->lanes[i].deferred;
-}
-
 /* The frames of this transaction are gone with it; none of them has left. How far the others are
  * carried stays known. */
-static void give_up(struct sender *s, const struct looked *before)
+static void give_up(struct sender *s, sqlite3_int64 seen)
 {
     size_t i;
     outbox_rollback(&s->outbox);
-    s->seen = before->seen;
-    s->unknown[0] = 0;
-    for (i = 0; i < s->lane_count; i++)
-        s->lanes[i].deferred = before->deferred[i];
+    texts_give_up(s, seen);
     for (i = 0; i < s->touched.count; i++) {
-        seal_reset(s->touched.at[i]);
-        sender_note_renewed(s->touched.at[i], 0);
-        s->touched.at[i]->is_touched = 0;
+        struct sending *it = s->touched.at[i];
+        const struct history history = outbox_history(&s->outbox, &it->of, it->kept.done, &it->kept.history,
+                                                      it->end.progress.next);
+        seal_reset(it, &history);
+        sender_note_renewed(it, 0);
+        it->is_touched = 0;
+        publish_note(s, it);
     }
     s->touched.count = 0;
 }
 
 /* A session whose text can't be sealed is stopped, and the rest is tried again without it. */
-static enum outbox_answer store(struct sender *s, int with_texts, struct looked *before)
+static enum outbox_answer store(struct sender *s, int with_texts)
 {
     enum outbox_answer begun = outbox_begin(&s->outbox);
     enum seal_answer answer = SEAL_OK;
     struct sending *stopped = NULL;
+    sqlite3_int64 seen = s->seen;
     if (begun != OUTBOX_OK)
         return begun;
-    note_looked(s, before);
     if (with_texts)
         answer = texts_take(s, &stopped);
     if (answer == SEAL_OK)
         answer = keep_sealed(s, &stopped);
     if (answer == SEAL_OK)
-        answer = keep_carried(s);
+        answer = keep_dirty(s);
     if (answer == SEAL_OK && outbox_commit(&s->outbox) == 0) {
+        s->kept_moment = milliseconds();
         note_kept(s);
         return OUTBOX_OK;
     }
-    give_up(s, before);
+    give_up(s, seen);
     if (answer == SEAL_STOP)
         return sender_stop(s, stopped->of.name, stopped->reason);
     pause_milliseconds(PAUSE);
@@ -223,8 +215,7 @@ static enum outbox_answer store(struct sender *s, int with_texts, struct looked 
  * shown where none waits, too. */
 static void report_silence(struct sender *s, size_t rose)
 {
-    size_t backlog = publish_backlog(s);
-    uint64_t now = nanoseconds();
+    uint64_t backlog = s->uncarried, now = nanoseconds();
     if (rose > 0 || (backlog == 0 && !carrier_is_away(s->carrier)))
         s->rose = now;
     if (rose > 0 || backlog == 0)
@@ -278,6 +269,45 @@ static enum outbox_answer look_at_hangups(struct sender *s)
     return OUTBOX_OK;
 }
 
+/* Stores of the sessions of which that has changed why they stand, as krb_engine says: 0, or -1 after a fault. */
+static int keep_changed_stands(struct sender *s)
+{
+    size_t i;
+    for (i = 0; i < s->all.count; i++) {
+        struct sending *it = s->all.at[i];
+        if (it->stands == it->stands_now || !it->is_stored)
+            continue;
+        if (outbox_set_stands(&s->outbox, it->of.name, it->stands_now) != 0)
+            return -1;
+        it->stands = it->stands_now;
+    }
+    return 0;
+}
+
+static enum outbox_answer keep_stands(struct sender *s)
+{
+    uint64_t under_way, room, changed = 0;
+    uint32_t settled;
+    enum outbox_answer begun;
+    size_t i;
+    s->standing = 0;
+    for (i = 0; i < s->all.count; i++) {
+        struct sending *it = s->all.at[i];
+        if (krbrelay_sending_state(&it->end, &under_way, &room, &settled, &it->stands_now) != KRBRELAY_OK
+            || it->stopped_at == 1)
+            it->stands_now = KRBRELAY_STANDS_NOT; /* one that is stopped has its reason in `stopped` */
+        s->standing += it->stands_now != KRBRELAY_STANDS_NOT;
+        changed += it->stands != it->stands_now && it->is_stored;
+    }
+    begun = changed > 0 ? outbox_begin(&s->outbox) : OUTBOX_OK;
+    if (changed == 0 || begun != OUTBOX_OK)
+        return begun;
+    if (keep_changed_stands(s) == 0 && outbox_commit(&s->outbox) == 0)
+        return OUTBOX_OK;
+    outbox_rollback(&s->outbox);
+    return OUTBOX_AGAIN;
+}
+
 /* Each second: shows how it stands, looks whether the outbox is still this process's, also where
  * nothing is stored, and whether the file of sessions has changed. */
 static enum outbox_answer look(struct sender *s)
@@ -292,7 +322,9 @@ static enum outbox_answer look(struct sender *s)
         return OUTBOX_TAKEN;
     if (!outbox_is_there(&s->outbox) || carrier_is_closed(s->carrier))
         return OUTBOX_FAULT; /* which is reported: a unit starts this program again */
-    answer = look_at_sessions(s);
+    answer = keep_stands(s);
+    if (answer == OUTBOX_OK)
+        answer = look_at_sessions(s);
     if (answer == OUTBOX_OK && sender_try_left(s) != 0)
         answer = OUTBOX_FAULT;
     if (answer == OUTBOX_OK && s->kerberos != NULL)
@@ -306,58 +338,66 @@ static int may_get_tickets(struct sender *s)
     if (s->tickets == NULL)
         return 0;
     return !tickets_have_tried(s->tickets)
-           || (publish_count_held(s) > 0 && tickets_have(s->tickets));
+           || (s->held > 0 && tickets_have(s->tickets));
 }
 
-/* One round; *rose is how many frames were carried in the last. 1 if all is done that can be. */
-static int step(struct sender *s, struct looked *before, size_t *rose, enum outbox_answer *answer)
+/* Whether all is done that can be. */
+static int is_drained(struct sender *s, int texts)
+{
+    return s->options.drain && !texts && s->uncarried == 0 && s->dirty.count == 0 && s->untold.count == 0
+           && !may_get_tickets(s);
+}
+
+/* Tells which sessions are stopped. */
+static enum outbox_answer tell_untold(struct sender *s)
+{
+    enum outbox_answer answer = OUTBOX_OK;
+    while (s->untold.count > 0 && answer == OUTBOX_OK) {
+        const struct sending *it = s->untold.at[s->untold.count - 1];
+        answer = sender_stop(s, it->of.name, it->reason);
+        s->untold.count -= answer == OUTBOX_OK;
+    }
+    return answer == OUTBOX_AGAIN ? OUTBOX_OK : answer;
+}
+
+/* One round. 1 if all is done that can be. */
+static int step(struct sender *s, enum outbox_answer *answer)
 {
     uint64_t began = nanoseconds(), sealing = s->sealing.nanoseconds;
-    unsigned long receipts = s->receipts;
-    size_t backlog;
-    int texts;
+    size_t rose;
+    int texts, has_more;
     *answer = look(s);
     if (*answer == OUTBOX_OK)
-        *answer = texts_check_wanted(s);
+        *answer = tell_untold(s);
     if (*answer < 0)
         return 1;
-    backlog = publish_backlog(s);
     texts = texts_wait(s);
-    if (texts || *rose > 0)
-        *answer = store(s, texts, before);
-    if (*answer < 0)
+    if (is_drained(s, texts))
         return 1;
-    if (s->options.drain && !texts && backlog == 0 && *rose == 0 && s->wanted.count == 0
-        && !may_get_tickets(s))
+    if (texts || (s->dirty.count > 0 && milliseconds() - s->kept_moment >= KEPT))
+        *answer = store(s, texts);
+    if (*answer < 0)
         return 1;
     s->storing += nanoseconds() - began - (s->sealing.nanoseconds - sealing);
     began = nanoseconds();
-    publish_all(s);
-    backlog = publish_backlog(s);
-    *rose = publish_count_carried(s, backlog > 0 && !(texts && backlog < WINDOW / 2) ? IDLE : 0);
-    report_silence(s, *rose);
     receipts_hear(s);
-    *rose += (size_t)(s->receipts - receipts); /* those that were asked for are stored at once too */
+    has_more = publish_all(s);
+    rose = publish_count_carried(s, s->uncarried > 0 && !texts && !has_more ? IDLE : 0);
+    report_silence(s, rose);
     s->carrying += nanoseconds() - began;
-    if (!texts && *rose == 0)
+    if (!texts && rose == 0 && !has_more)
         pause_milliseconds(1);
     return 0;
 }
 
 static enum outbox_answer serve(struct sender *s)
 {
-    struct looked before = { 0, calloc(CARRIER_SHARDS, sizeof *before.deferred) };
-    enum outbox_answer answer = OUTBOX_FAULT;
-    size_t rose = 0;
+    enum outbox_answer answer = OUTBOX_OK;
     s->rose = s->told = nanoseconds();
     service_tell_ready();
-    if (before.deferred != NULL) {
-        answer = OUTBOX_OK;
-        while (!is_ending() && !step(s, &before, &rose, &answer))
-            continue;
-    }
+    while (!is_ending() && !step(s, &answer))
+        continue;
     service_tell_end();
-    free(before.deferred);
     return answer == OUTBOX_AGAIN ? OUTBOX_OK : answer;
 }
 
@@ -368,9 +408,8 @@ static int make_memory(struct sender *s)
     s->sealing.outbox = &s->outbox;
     s->sealing.batch = s->options.batch;
     s->sealing.frame = malloc(KRBRELAY_FRAME_LIMIT);
-    s->bytes = malloc(KRBRELAY_FRAME_LIMIT);
     s->opening = malloc(OPENING);
-    if (s->sealing.frame != NULL && s->bytes != NULL && s->opening != NULL)
+    if (s->sealing.frame != NULL && s->opening != NULL)
         return 0;
     log_system("out_of_memory", "sender");
     return -1;
@@ -400,6 +439,8 @@ static int start(struct sender *s)
     if (s->kerberos != NULL && outbox_wrap_anew(&s->outbox, s->kerberos) != 0)
         return -1;
     s->renew = outbox_renewed(&s->outbox);
+    receipts_hear(s); /* before anything is sealed */
+    s->has_begun = 1;
     if (sender_begin(s) != 0)
         return -1;
     if (sender_begin_showing() != 0)
@@ -411,6 +452,7 @@ static void stop(struct sender *s)
 {
     service_end();
     sender_forget(s);
+    receipts_forget(s);
     outbox_close(&s->outbox);
     if (s->tickets != NULL)
         tickets_close(s->tickets);
@@ -421,9 +463,6 @@ static void stop(struct sender *s)
         carrier_close(s->carrier);
     sessions_forget(s->sessions);
     sessions_forget(s->newer);
-    if (s->bytes != NULL)
-        explicit_bzero(s->bytes, KRBRELAY_FRAME_LIMIT);
-    free(s->bytes);
     free(s->sealing.frame);
 }
 
@@ -441,7 +480,7 @@ static int work(struct sender *s)
     if (answer == OUTBOX_TAKEN)
         log_fact(LEVEL_ERROR, "outbox_taken", field_text("file", s->options.outbox),
                  field_text("text", "another sender has taken it over: this one ends"));
-    held = publish_count_held(s);
+    held = s->held;
     stopped = s->outbox.db != NULL ? outbox_count_stopped(&s->outbox) : 0;
     stop(s);
     log_end();
@@ -456,9 +495,9 @@ static const struct option words_of_options[] = {
     CARRIER_WORDS, KERBEROS_WORDS,
     { "client", required_argument, NULL, KERBEROS_CLIENT },
     { "etype", required_argument, NULL, KERBEROS_ETYPE },
-    { "life", required_argument, NULL, 'l' },     { "patience", required_argument, NULL, 'p' },
+    { "life", required_argument, NULL, 'l' },
     { "sessions", required_argument, NULL, 's' }, { "outbox", required_argument, NULL, 'o' },
-    { "batch", required_argument, NULL, 'b' },    { "retry", required_argument, NULL, 't' },
+    { "batch", required_argument, NULL, 'b' },
     { "metrics", required_argument, NULL, 'm' },  { "drain", no_argument, NULL, 'd' },
     { "max-waiting", required_argument, NULL, 'w' },
     { "help", no_argument, NULL, 'h' },           { "version", no_argument, NULL, 'v' },
@@ -471,13 +510,11 @@ static int read_option(struct options *o, int letter)
     case 's': o->sessions = *optarg != 0 ? optarg : NULL; break; /* units may have no file */
     case 'o': o->outbox = optarg; break;
     case 'b': o->batch = option_number("sender", "batch", optarg, 1, BATCH_TEXTS); break;
-    case 't': o->retry = option_number("sender", "retry", optarg, 1, 86400000); break;
     case 'm': o->metrics = optarg; break;
     case 'w': o->most_waiting = option_number("sender", "max-waiting", optarg, 0, INT32_MAX); break;
     case 'd': o->drain = 1; break;
     case 'h': end_with(0, "%s", usage);
     case 'v': end_with_version("sender");
-    case 'p': o->patience = option_number("sender", "patience", optarg, 1, 86400); break;
     case 'l': o->life = option_number("sender", "life", optarg, 1, UINT32_MAX); break;
     default:
         return carrier_option("sender", &o->carrier, letter, optarg)
@@ -499,11 +536,9 @@ int main(int count, char **words)
 {
     static struct sender sender;
     sender.options.carrier.replicas = sender.options.batch = 1;
-    sender.options.retry = 2000;
     sender.options.kerberos.etype = 18;
     sender.options.kerberos.shards = 1;
     sender.options.life = 86400;
-    sender.options.patience = 30;
     if (!read_options(&sender.options, count, words))
         end_with(2, "%s", usage);
     carrier_check_options("sender", &sender.options.carrier);

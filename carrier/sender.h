@@ -1,47 +1,46 @@
 /* The state of a sender, in five parts: sender_sessions.c has its sessions, texts.c takes texts
- * from the outbox, publish.c publishes their frames, sender.c stores what they did, and has the
+ * from the outbox, publish.c does for a session what krb_engine says, sender.c stores what was done, and has the
  * loop, and sender_report.c shows it.
+ *
+ * What leaves, and when again, what a receipt means and why a session stands is krb_engine's (docs/ENGINE.md):
+ * each session has a krbrelay_sending, each shard a krbrelay_flow and a queue of the sessions with something to
+ * do. The sender is the only one that repeats, and a receipt is the only word that deletes. Nothing is asked of a
+ * session.
  *
  * A session is loaded when its first text comes, or if it has frames. When the file of sessions is
  * another one, all begins anew as in a sender that starts.
  *
  * Sessions share nothing but the outbox. One that can't go on is stopped alone, and reported in the
- * outbox's table `stopped`. Each shard has a window of frames that are under way, so that one which
- * takes nothing doesn't keep the others waiting. */
+ * outbox's table `stopped`. */
 #ifndef SENDER_H
 #define SENDER_H
 
 #include "seal.h"
 #include "tickets.h"
 
-enum {
-    WINDOW = 2048, /* frames of a shard that are sealed and not yet carried */
-    TAKEN = 512    /* texts of a shard in one transaction */
-};
-
 struct options {
     struct carrier_options carrier;
     struct kerberos_options kerberos;
-    uint64_t patience; /* seconds after which what has no receipt is published again */
     uint64_t life; /* seconds after which a stream's next text begins another session */
     const char *sessions, *outbox, *metrics;
-    unsigned batch, retry, most_waiting;
+    unsigned batch, most_waiting;
     int drain;
 };
+
+/* Sessions; each is once in it. */
+struct list { struct sending **at; size_t count, room; };
 
 /* A shard. */
 struct lane {
     unsigned shard;
-    size_t backlog, room;   /* frames sealed and not carried; texts that may be taken now */
-    sqlite3_int64 deferred; /* its texts from this one on wait, up to those looked at; 0: none */
-    size_t waiting;         /* so many of its sessions are to be checked, */
-    uint64_t moment;        /* not before this moment */
-    int has_waiting;        /* a session's frames wait for a receipt */
-    uint64_t incarnation;   /* of the list to which frames are published; 0: it isn't there now */
+    struct list members;         /* its sessions, by their places */
+    struct krbrelay_flow flow;   /* the list to which frames are published, and how many are under way */
+    struct krbrelay_queue queue; /* whose turn it is */
+    uint64_t uncarried, unreceipted; /* frames of its sessions, as of all */
 };
 
-/* Sessions; each is once in it. */
-struct list { struct sending **at; size_t count; };
+/* A time at which a session is looked at. */
+struct wake { uint64_t at; struct sending *it; };
 
 /* What an application calls a stream. */
 struct stream {
@@ -57,7 +56,6 @@ struct sender {
     struct kerberos *kerberos;  /* NULL: no session begins by a ticket */
     struct tickets *tickets;
     void *streams;              /* tsearch's tree of the streams of which texts came */
-    size_t later;
     uint64_t renew;             /* sessions that were begun up to this second are old */
     int is_hung_up;             /* SIGHUP came, and the outbox isn't told yet */
     uint8_t *opening;           /* OPENING bytes */
@@ -66,25 +64,32 @@ struct sender {
     struct sessions *sessions;  /* the file, */
     struct sessions *newer;     /* and what it is now, before that is used, or NULL */
     struct list all;            /* all that are loaded, in the order of their tags */
-    size_t room;                /* so many have room in each list */
     void *by_name;              /* tsearch's tree of them */
     uint32_t first_tag;         /* of the first; those of confirmations below are of the past */
     struct lane lanes[CARRIER_SHARDS];
     size_t lane_count, lane_of[CARRIER_SHARDS]; /* each shard's lane, and 1; 0: none yet */
+    size_t first_lane;          /* whose turn it is first */
     struct sealing sealing;
     sqlite3_int64 seen;         /* all texts up to this one were looked at */
     struct list touched;        /* sealed from in this transaction */
-    struct list active;         /* with frames that aren't carried, or progress that isn't stored */
-    struct list wanted;         /* to be checked before the first text is sealed, or frame published */
+    struct list dirty;          /* whose progress isn't stored */
+    struct list untold;         /* that are stopped, and the outbox doesn't say so yet */
+    struct list sealable;       /* with texts that wait, of which some may be sealed now */
+    struct wake *wakes;         /* a heap of times, */
+    size_t wake_count, wake_room;
+    void *kept;                 /* tsearch's tree of the receipts that were there at the start, of sessions that
+                                 * weren't loaded since */
+    int has_begun;
     char unknown[CARRIER_NAME]; /* the last session without a line that was reported */
-    uint8_t *bytes;             /* of a frame that is opened */
     unsigned long published, again, receipts;
-    uint32_t has_receipts;      /* a session has them, */
-    uint64_t heard;             /* and it was looked for some at this moment */
+    uint64_t uncarried, unreceipted; /* frames of all sessions that aren't carried, or are and wait for a
+                                 * receipt */
+    size_t held, standing;      /* sessions that are held (seal.h); that stand */
+    uint64_t kept_moment;       /* when the outbox was written last, in milliseconds */
+    uint64_t heard;             /* it was looked for receipts at this moment */
     uint64_t storing, carrying; /* nanoseconds */
     uint64_t rose;              /* when a frame was carried last, or the carrier was there and none waited, */
     uint64_t told;              /* and when it was reported that none is, or there was no reason to */
-    uint64_t ask_moment;        /* no last receipt is asked for before this moment */
     uint64_t left_moment;       /* keys that couldn't be read are tried again then; 0: all could be, */
     unsigned left_tries;        /* and so often they were tried in vain */
     uint64_t looked;            /* when it was looked whether the outbox is this process's */
@@ -99,8 +104,8 @@ enum outbox_answer sender_stop(struct sender *s, const char *session, const char
 /* It isn't any more: the outbox says so, in a transaction of its own. */
 enum outbox_answer sender_end_stop(struct sender *s, const char *session);
 
-/* Puts a session into the list of active ones. */
-void sender_activate(struct sender *s, struct sending *it);
+/* Its progress is to be stored with the next transaction. */
+void sender_note_dirty(struct sender *s, struct sending *it);
 
 /* ---- sender_sessions.c */
 
@@ -111,9 +116,11 @@ struct sending *sender_add(struct sender *s, const struct session *of);
 size_t sender_lane(struct sender *s, unsigned shard);
 
 /* The session that takes the texts of this name: 1, 0 if there is none, -1 after a fault. In a
- * transaction. SENDER_LATER: it is to be begun once the lane `later` has room. */
-enum { SENDER_LATER = 2 };
+ * transaction. */
 int sender_find(struct sender *s, const char *name, struct sending **it);
+
+/* Room for one session more in a list: 1, or 0 if there is no memory. */
+int sender_grow(struct list *list, size_t count);
 
 /* Makes a session what the outbox has. */
 int sender_load(struct sender *s, struct sending *it);
@@ -154,54 +161,37 @@ int sender_try_left(struct sender *s);
 
 /* ---- texts.c */
 
-/* Where texts were looked at, which a transaction that is given up restores. */
-struct looked { sqlite3_int64 seen; sqlite3_int64 *deferred; };
-
-/* Checks the sessions that are wanted: a session whose frames went on beyond this outbox is
- * stopped. */
-enum outbox_answer texts_check_wanted(struct sender *s);
-
-/* The session is to be checked, unless it was. */
-void texts_want(struct sender *s, struct sending *it);
-
 /* Whether texts may be taken now. */
 int texts_wait(struct sender *s);
 
 /* Takes them, within a transaction. After SEAL_STOP *stopped is the session. */
 enum seal_answer texts_take(struct sender *s, struct sending **stopped);
 
+/* The transaction was given up, which began when all texts up to this one were looked at. */
+void texts_give_up(struct sender *s, sqlite3_int64 seen);
+
 /* ---- publish.c */
 
-/* Publishes what wasn't, or wasn't carried in time. */
-void publish_all(struct sender *s);
+/* Does what krb_engine says of sessions whose turn it is. 1 if more wait for theirs. */
+int publish_all(struct sender *s);
 
-/* Counts the frames that are carried now, and answers how many. */
+/* Counts the frames that are carried now, and answers how many. Waits for the first at most so long. */
 size_t publish_count_carried(struct sender *s, int milliseconds);
 
-/* How many frames wait that may be carried; how many are carried and wait for a receipt; how many sessions
- * are held (seal.h). */
-size_t publish_backlog(const struct sender *s);
-uint64_t publish_count_unreceipted(const struct sender *s);
-size_t publish_count_held(const struct sender *s);
+/* Something has happened to the session: what is counted of it is counted anew, and it has its turn. */
+void publish_note(struct sender *s, struct sending *it);
 
-/* The session's publishing ends; begins again after what is done; what is done counts as carried. */
-void publish_block(struct sender *s, struct sending *it);
-void publish_restart(struct sender *s, struct sending *it);
-void publish_note_done(struct sender *s, struct sending *it);
+/* Nothing of it leaves any more, for its `reason`: the next round says so in the outbox. */
+void publish_stop(struct sender *s, struct sending *it);
 
 /* ---- sender_receipts.c */
 
-/* Takes the receipts that came. */
+/* Takes the receipts that came. At the start those of sessions that aren't loaded are kept until they are. */
 void receipts_hear(struct sender *s);
 
-/* Looks whether a session has waited for too long for one. */
-void receipts_look(struct sender *s, struct sending *it);
-
-/* The history of all frames of a session below a number, as far as it is known. */
-struct history receipts_history(struct sender *s, const struct sending *it, uint64_t n);
-
-/* Asks for the last receipt of a session, and takes it: 0, or -1 if the carrier doesn't answer. */
-int receipts_ask_last(struct sender *s, const struct sending *it);
+/* Takes the one that was kept for a session. */
+void receipts_take_kept(struct sender *s, struct sending *it);
+void receipts_forget(struct sender *s);
 
 /* ---- sender_report.c: the sender is the first part of service.h, its shards are the others. */
 

@@ -25,6 +25,7 @@ static const struct metric metrics[] = {
     { NAME "receipts_total", "counter", "Receipts that covered more than those before", NULL },
     { NAME "frames_without_receipt", "gauge", "Frames that are carried and wait for a receipt", NULL },
     { NAME "held_sessions", "gauge", "Sessions that wait for a ticket, or for the one before", NULL },
+    { NAME "standing_sessions", "gauge", "Sessions that stand: nobody confirms, answers or takes their frames", NULL },
     { NAME "stopped_sessions", "gauge", "Sessions that are stopped", NULL },
     { NAME "silent_seconds", "gauge", "Since a frame was carried, if any waits or the carrier is away",
       NULL },
@@ -45,7 +46,7 @@ static void show_lane(const struct lane *lane, unsigned part)
     unsigned i;
     for (i = 0; i + 1 < METRICS; i++)
         values[i] = NAN;
-    values[METRICS - 1] = (double)lane->backlog;
+    values[METRICS - 1] = (double)lane->uncarried;
     write_whole(labels, sizeof labels, "shard=\"%u\"", lane->shard);
     service_alive(part, 1, labels, values);
 }
@@ -67,7 +68,7 @@ void sender_show(struct sender *s)
         (double)s->sealing.frames, (double)s->published, (double)s->again,
         (double)s->sealing.nanoseconds / 1e9, (double)s->storing / 1e9, (double)s->carrying / 1e9,
         (double)texts, (double)s->options.most_waiting, age_of_oldest(s, texts), (double)s->receipts,
-        (double)publish_count_unreceipted(s), (double)publish_count_held(s),
+        (double)s->unreceipted, (double)s->held, (double)s->standing,
         (double)outbox_count_stopped(&s->outbox), silent, NAN,
     };
     unsigned i;

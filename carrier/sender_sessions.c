@@ -1,5 +1,7 @@
 /* The sessions of a sender that are loaded. */
+#include "clock.h"
 #include "log.h"
+#include "receipts.h"
 #include "sender.h"
 
 #include <search.h>
@@ -12,26 +14,29 @@ static int by_name(const void *one, const void *other)
     return strcmp(one, other);
 }
 
-static int grow_list(struct list *list, size_t room)
+int sender_grow(struct list *list, size_t count)
 {
-    struct sending **more = realloc(list->at, room * sizeof *more);
+    size_t room = 2 * list->room + 64;
+    struct sending **more;
+    if (count < list->room)
+        return 1;
+    more = realloc(list->at, room * sizeof *more);
     if (more == NULL)
         return 0;
     list->at = more;
+    list->room = room;
     return 1;
 }
 
 /* Room for one more session in each list. */
-static int grow(struct sender *s)
+static int grow(struct sender *s, struct lane *lane)
 {
-    size_t room = 2 * s->room + 64;
-    if (s->all.count < s->room)
-        return 1;
-    if (!grow_list(&s->all, room) || !grow_list(&s->touched, room)
-        || !grow_list(&s->active, room) || !grow_list(&s->wanted, room))
-        return 0;
-    s->room = room;
-    return 1;
+    struct list *const lists[] = { &s->all, &s->touched, &s->dirty, &s->sealable, &s->untold };
+    size_t i;
+    for (i = 0; i < sizeof lists / sizeof *lists; i++)
+        if (!sender_grow(lists[i], s->all.count))
+            return 0;
+    return sender_grow(&lane->members, lane->members.count);
 }
 
 size_t sender_lane(struct sender *s, unsigned shard)
@@ -56,14 +61,22 @@ static void free_sending(struct sending *it)
 
 struct sending *sender_add(struct sender *s, const struct session *of)
 {
-    struct sending *it = grow(s) ? calloc(1, sizeof *it) : NULL;
+    size_t place = sender_lane(s, of->shard);
+    struct lane *lane = &s->lanes[place];
+    struct sending *it = grow(s, lane) ? calloc(1, sizeof *it) : NULL;
     if (it == NULL)
         return NULL;
     it->of = *of;
-    it->lane = sender_lane(s, of->shard);
+    it->lane = place;
+    it->place = (uint32_t)lane->members.count;
     it->tag = s->first_tag + (uint32_t)s->all.count;
+    it->wakes = UINT64_MAX;
+    it->is_stored = 1; /* but of a stream's session that begins now */
     if (tsearch(it, &s->by_name, by_name) != NULL && sender_load(s, it) == 0) {
         s->all.at[s->all.count++] = it;
+        lane->members.at[lane->members.count++] = it;
+        receipts_take_kept(s, it);
+        publish_note(s, it);
         return it;
     }
     (void)tdelete(it, &s->by_name, by_name); /* NULL if it isn't there */
@@ -73,24 +86,23 @@ struct sending *sender_add(struct sender *s, const struct session *of)
 
 int sender_load(struct sender *s, struct sending *it)
 {
-    struct lane *lane = &s->lanes[it->lane];
-    if (outbox_load(&s->outbox, &it->of, &it->kept) != 0)
+    struct outbox_progress *kept = &it->kept;
+    struct history history;
+    int is_elsewhere;
+    if (outbox_load(&s->outbox, &it->of, kept) != 0)
         return -1;
-    lane->backlog -= (size_t)(it->progress.next - it->progress.carried);
-    if (progress_begin(&it->progress, it->kept.next, it->kept.carried, it->kept.at) != 0) {
+    is_elsewhere = kept->shard >= 0 && kept->shard != (int32_t)it->of.shard;
+    if (krbrelay_sending_load(&it->end, kept->next, kept->carried, kept->at, kept->done,
+                              is_elsewhere ? 0 : kept->incarnation, milliseconds()) != KRBRELAY_OK) {
         log_fact(LEVEL_ERROR, "progress_unknown", field_text("session", it->of.name),
-                 field_number("next", it->kept.next), field_number("carried", it->kept.carried),
+                 field_number("next", kept->next), field_number("carried", kept->carried),
+                 field_number("done", kept->done),
                  field_text("text", "the outbox has these numbers, which are no progress"));
         return -1;
     }
-    it->done = it->kept.done;
-    it->history = it->kept.history;
-    s->has_receipts |= it->of.has_back;
-    lane->backlog += (size_t)(it->progress.next - it->progress.carried);
-    seal_reset(it);
-    if (it->progress.carried < it->progress.next
-        || (it->of.has_back && it->done < it->progress.carried))
-        sender_activate(s, it);
+    it->stands = kept->stands;
+    history = outbox_history(&s->outbox, &it->of, kept->done, &kept->history, kept->next);
+    seal_reset(it, &history);
     return 0;
 }
 
@@ -103,7 +115,7 @@ int sender_find(struct sender *s, const char *name, struct sending **it)
     if (*it != NULL && (*it)->begun == NULL)
         return 1;
     is_there = sessions_find(s->sessions, name, &of);
-    if (is_there)
+    if (is_there && receipt_key(&of) == 0)
         *it = sender_add(s, &of);
     explicit_bzero(&of, sizeof of);
     if (is_there)
@@ -148,6 +160,12 @@ static void keep(void *given)
     (void)given;
 }
 
+static void forget_list(struct list *list)
+{
+    free(list->at);
+    *list = (struct list){ NULL, 0, 0 };
+}
+
 void sender_forget(struct sender *s)
 {
     size_t i;
@@ -156,15 +174,21 @@ void sender_forget(struct sender *s)
     s->by_name = NULL;
     for (i = 0; i < s->all.count; i++)
         free_sending(s->all.at[i]);
-    for (i = 0; i < s->lane_count; i++)
+    for (i = 0; i < s->lane_count; i++) {
+        krbrelay_queue_free(&s->lanes[i].queue);
+        forget_list(&s->lanes[i].members);
         s->lanes[i] = (struct lane){ .shard = s->lanes[i].shard };
+    }
     s->first_tag += (uint32_t)s->all.count;
-    free(s->all.at);
-    free(s->touched.at);
-    free(s->active.at);
-    free(s->wanted.at);
-    s->all = s->touched = s->active = s->wanted = (struct list){ NULL, 0 };
-    s->room = 0;
+    forget_list(&s->all);
+    forget_list(&s->touched);
+    forget_list(&s->dirty);
+    forget_list(&s->sealable);
+    forget_list(&s->untold);
+    free(s->wakes);
+    s->wakes = NULL;
+    s->wake_count = s->wake_room = s->held = 0;
+    s->uncarried = s->unreceipted = 0;
     s->seen = 0;
     s->unknown[0] = 0;
 }

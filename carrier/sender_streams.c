@@ -65,7 +65,6 @@ static struct sending *add(struct sender *s, struct stream *stream, const struct
     added->begun = copy;
     added->stream = stream;
     added->is_stored = is_stored;
-    added->is_checked = !is_stored; /* nothing of a new one has left */
     return added;
 }
 
@@ -99,19 +98,6 @@ static struct sending *begin(struct sender *s, struct stream *stream, const stru
 
 /* ---- Streams */
 
-/* Begins a stream's next session if its text can be taken now, so that none is begun of which
- * nothing is stored. Answers as sender_find. */
-static int begin_now(struct sender *s, struct stream *stream, const struct begun *last)
-{
-    const struct lane *lane;
-    s->later = sender_lane(s, shard_of(s, stream, last));
-    lane = &s->lanes[s->later];
-    if (lane->deferred > 0 || lane->room == 0)
-        return SENDER_LATER;
-    stream->now = begin(s, stream, last);
-    return stream->now != NULL ? 1 : -1;
-}
-
 /* Makes a stream what the outbox has of it: answers as sender_find, 0 if its key can't be read. */
 static int load(struct sender *s, struct stream *stream)
 {
@@ -120,7 +106,7 @@ static int load(struct sender *s, struct stream *stream)
     if (found == 1 && !last.is_closed)
         answer = sender_find_begun(s, last.opened.name, &stream->now);
     else if (found >= 0)
-        answer = begin_now(s, stream, found == 1 ? &last : NULL);
+        answer = (stream->now = begin(s, stream, found == 1 ? &last : NULL)) != NULL ? 1 : -1;
     explicit_bzero(&last, sizeof last);
     return answer;
 }
@@ -207,15 +193,12 @@ static void try_again(const void *node, VISIT visit, int depth)
 
 int sender_try_left(struct sender *s)
 {
-    size_t i;
     if (s->left_moment == 0 || nanoseconds() < s->left_moment)
         return 0;
     s->left_moment = 0;
     s->left_tries++;
     twalk(s->streams, try_again);
     s->seen = 0;
-    for (i = 0; i < s->lane_count; i++)
-        s->lanes[i].deferred = 0;
     return sender_begin(s);
 }
 
@@ -223,31 +206,20 @@ int sender_is_after(const struct sender *s, const struct sending *it)
 {
     void *found = tfind(it->begun->opened.before, &s->by_name, by_name);
     const struct sending *before = found != NULL ? *(struct sending **)found : NULL;
-    return before != NULL && before->progress.carried < before->progress.next;
+    return before != NULL && before->end.progress.carried < before->end.progress.next;
 }
 
 /* ---- A new key */
 
-/* The history of a session that isn't loaded, as the outbox has it. */
-static struct history stored_history(struct sender *s, const char *name)
-{
-    struct session of = { .first = 1, .has_opening = 1 };
-    struct outbox_progress row;
-    if (!copy_text(of.name, sizeof of.name, name) || outbox_load(&s->outbox, &of, &row) != 0)
-        return (struct history){ .is_known = 0 };
-    outbox_add_history(&s->outbox, name, row.done > 1 ? row.done : 1, row.next, &row.history);
-    return row.history;
-}
-
 void sender_note_before(struct sender *s, struct sending *it)
 {
     struct opened *opened = &it->begun->opened;
-    void *found = tfind(opened->before, &s->by_name, by_name);
-    const struct sending *before = found != NULL ? *(struct sending **)found : NULL;
-    if (opened->before[0] == 0 || opened->closed.is_known)
+    struct session of = { .first = 1, .has_opening = 1 };
+    struct outbox_progress row;
+    if (opened->before[0] == 0 || opened->closed.is_known || !copy_text(of.name, sizeof of.name, opened->before)
+        || outbox_load(&s->outbox, &of, &row) != 0)
         return;
-    opened->closed = before != NULL ? receipts_history(s, before, before->progress.next)
-                                    : stored_history(s, opened->before);
+    opened->closed = outbox_history(&s->outbox, &of, row.done, &row.history, row.next);
 }
 
 int sender_is_old(const struct sender *s, const struct sending *it)
@@ -283,6 +255,7 @@ void sender_note_renewed(struct sending *it, int is_kept)
     if (!is_kept)
         return;
     it->begun->is_closed = 1;
+    it->has_texts = 0; /* they are the next one's */
     stream->now = stream->next;
     stream->next = NULL;
 }

@@ -4,7 +4,8 @@
  *     tom-7 3 18 priv 6b6579..(64 digits) 1 10.0.0.1 10.0.0.255
  *
  * A name has 1 to 31 letters, digits, '-' and '_', a shard is below CARRIER_SHARDS, and FIRST
- * below 2^32. BACK is the key under which receipts are sealed (receipts.h). No two sessions have a
+ * below 2^32. BACK is the key under which receipts are sealed; without it that follows from KEY
+ * (receipts.h). No two sessions have a
  * name or a key in common: under one key, what is sealed of one would open as the other's. They
  * stand there as keys stand in a keytab; where they come from is up to the exchange.
  *
@@ -24,7 +25,7 @@ struct session {
     uint32_t mode; /* KRBRELAY_SAFE or KRBRELAY_PRIV */
     uint8_t key[32];
     size_t key_len;
-    uint8_t back[32]; /* the key of the way back, as long, if there is one */
+    uint8_t back[32]; /* the key of the way back, as long, if has_back; else it follows (receipt_key) */
     uint32_t has_back;
     uint32_t first; /* the first sequence number */
     uint32_t has_opening; /* 1: before it stands an opening (opening.h); or 0 */

@@ -43,51 +43,54 @@ static int look(struct shard *s, struct receiving *of, const struct carried *it,
     return carried.has_number != 0;
 }
 
-/* The session's place after a frame (krbrelay_place_take), which was refused by this answer or wasn't:
- * tells what it is taken for. 0, or -1 if the place is none. */
-static int take_place(struct shard *s, struct receiving *of, uint64_t offset,
-                      const struct krbrelay_taken *taken, enum krbrelay_answer answer,
-                      uint32_t *outcome)
+/* The session's row is to be compared and moved. */
+static void note_changed(struct shard *s, struct receiving *it)
 {
-    struct krbrelay_place place = { of->now.at, missed_kind(of->now.missed),
-                                    (uint32_t)of->has_opened };
-    if (krbrelay_place_take(&place, offset, taken, outcome) != KRBRELAY_OK)
-        return -1;
-    of->has_opened = place.known != 0;
-    of->now.at = place.at;
-    if (missed_kind(of->now.missed) != place.missed)
-        of->now.missed = *outcome == KRBRELAY_OUTCOME_UNSETTLED ? missed_by(answer) : place.missed;
-    if (*outcome == KRBRELAY_OUTCOME_EARLY || *outcome == KRBRELAY_OUTCOME_UNSETTLED)
-        shard_stands(s, of);
-    if (*outcome != KRBRELAY_OUTCOME_REPEAT && *outcome != KRBRELAY_OUTCOME_UNKNOWN)
-        shard_note_changed(s, of);
-    return 0;
+    if (!it->is_changed)
+        s->changed.at[s->changed.count++] = it;
+    it->is_changed = 1;
 }
 
-static void tell_early(struct shard *s, struct receiving *of, const struct carried *it,
-                       const struct krbrelay_taken *taken)
+/* A frame of it was taken in this transaction. */
+static void note_taken(struct shard *s, struct receiving *it)
 {
-    s->counts.early++;
-    shard_owe(s, of);
-    log_fact(LEVEL_WARNING, "frame_early", field_text("session", it->session),
-             field_number("shard", s->number), field_number("offset", it->offset),
-             field_number("number", taken->opened), field_number("demanded", taken->demanded),
-             field_text("text", "it has to come again after the demanded one"));
+    if (!it->is_taken)
+        s->taken.at[s->taken.count++] = it;
+    it->is_taken = 1;
 }
 
-/* A frame of a session whose stream's session before isn't closed: it isn't settled. */
-static int take_before_turn(struct shard *s, struct receiving *of, const struct carried *it,
-                            uint64_t demanded)
+static void stands(struct shard *s, struct receiving *it)
 {
-    const struct krbrelay_taken taken = { .demanded = demanded, .has_opened = 1,
-                                          .opened = demanded };
-    uint32_t outcome;
-    s->counts.early++;
+    if (!it->is_standing)
+        s->standing.at[s->standing.count++] = it;
+    it->is_standing = 1;
+}
+
+static void goes_on(struct shard *s, struct receiving *it)
+{
+    size_t i = 0;
+    if (!it->is_standing)
+        return;
+    while (s->standing.at[i] != it)
+        i++;
+    s->standing.at[i] = s->standing.at[--s->standing.count];
+    it->is_standing = 0;
+}
+
+/* What the store says of it for who looks. */
+static void note_missed(struct shard *s, struct receiving *of, uint32_t missed)
+{
+    if (of->now.missed != missed)
+        note_changed(s, of);
+    of->now.missed = missed;
+}
+
+static void tell_early(struct shard *s, const struct receiving *of, const struct carried *it, uint64_t number)
+{
     log_fact(LEVEL_WARNING, "frame_early", field_text("session", it->session),
              field_number("shard", s->number), field_number("offset", it->offset),
-             field_text("before", of->opened->before),
-             field_text("text", "it is read again after the close of the session before"));
-    return take_place(s, of, it->offset, &taken, KRBRELAY_OK, &outcome);
+             field_number("number", number), field_number("demanded", of->end.drafted.number),
+             field_text("text", "it has to come again after the demanded one, which is asked for"));
 }
 
 static void tell_refused(struct shard *s, const struct carried *it, enum krbrelay_answer answer)
@@ -105,50 +108,58 @@ static void tell_refused(struct shard *s, const struct carried *it, enum krbrela
                                     " --skew above the time that the carrier keeps frames?"));
 }
 
-/* The receipt for it may have been lost. */
-static void take_repeat(struct shard *s, struct receiving *of)
+/* A frame that wasn't accepted, by what it was taken for. */
+static void note_unaccepted(struct shard *s, struct receiving *of, const struct carried *it,
+                            const struct krbrelay_seen *seen, uint32_t outcome, enum krbrelay_answer answer)
 {
-    s->counts.repeats++;
-    shard_owe(s, of);
+    if (outcome == KRBRELAY_OUTCOME_REPEAT) {
+        s->counts.repeats++;
+        return;
+    }
+    if (outcome == KRBRELAY_OUTCOME_EARLY) {
+        s->counts.early++;
+        note_missed(s, of, KRBRELAY_MISSED_EARLY);
+        tell_early(s, of, it, seen->opened);
+    } else {
+        tell_refused(s, it, answer);
+    }
+    if (outcome == KRBRELAY_OUTCOME_UNSETTLED)
+        note_missed(s, of, missed_by(answer));
+    if (outcome != KRBRELAY_OUTCOME_UNKNOWN || !of->has_opened) /* else it is nobody's */
+        stands(s, of);
 }
 
 /* A frame was refused. Out of memory and the like is no refusal: -1. */
 static int take_refusal(struct shard *s, struct receiving *of, const struct carried *it,
-                        uint64_t demanded, enum krbrelay_answer answer)
+                        enum krbrelay_answer answer)
 {
-    struct krbrelay_taken taken = { .demanded = demanded,
-                                    .closed = answer == KRBRELAY_AFTER_CLOSE };
+    struct krbrelay_seen seen = { 0 };
     uint32_t outcome = 0;
     int opens;
     if (!krbrelay_is_refusal(answer)) {
-        report_answer("frame_unopened", it->session, demanded, answer);
+        report_answer("frame_unopened", it->session, of->end.drafted.number, answer);
         return -1;
     }
-    opens = taken.closed ? 0 : look(s, of, it, &taken.opened);
+    opens = answer == KRBRELAY_AFTER_CLOSE ? 0 : look(s, of, it, &seen.opened);
     if (opens < 0)
         return -1; /* the frames are read again */
-    taken.has_opened = (uint32_t)opens;
-    if (take_place(s, of, it->offset, &taken, answer, &outcome) != 0)
+    seen.has_opened = (uint32_t)opens;
+    if (krbrelay_receiving_take(&of->end, it->frame, it->len, &seen, &outcome) != KRBRELAY_OK)
         return -1;
-    if (outcome == KRBRELAY_OUTCOME_REPEAT)
-        take_repeat(s, of);
-    else if (outcome == KRBRELAY_OUTCOME_EARLY)
-        tell_early(s, of, it, &taken);
-    else
-        tell_refused(s, it, answer);
+    note_unaccepted(s, of, it, &seen, outcome, answer);
     return 0;
 }
 
 /* A frame under a name that is no session's of this shard here. */
-static int take_unknown(struct shard *s, const struct carried *it)
+static void take_unknown(struct shard *s, const struct carried *it)
 {
     struct session of;
     int is_elsewhere = sessions_find(s->sessions, it->session, &of);
-    int may_be = sessions_may_have(it->session);
     unsigned shard = of.shard;
     explicit_bzero(&of, sizeof of);
-    if (s->kerberos != NULL && !is_elsewhere && may_be && opening_is(it->frame, it->len))
-        return store_pass(s->store, s->number, it->session, it->offset); /* it was counted */
+    if (s->kerberos != NULL && !is_elsewhere && sessions_may_have(it->session)
+        && opening_is(it->frame, it->len))
+        return; /* it was counted */
     shard_count_refused(&s->counts, 0);
     if (is_elsewhere)
         log_fact(LEVEL_WARNING, "frame_misplaced", field_text("session", it->session),
@@ -158,8 +169,7 @@ static int take_unknown(struct shard *s, const struct carried *it)
     else
         log_fact(LEVEL_WARNING, "session_unknown", field_text("session", it->session),
                  field_number("shard", s->number), field_number("offset", it->offset),
-                 field_text("text", "it has no line: its frame is read again once it has one"));
-    return may_be ? store_pass(s->store, s->number, it->session, it->offset) : 0;
+                 field_text("text", "it has no line: it is passed by, and its sender sends it again"));
 }
 
 /* ---- A frame that is accepted */
@@ -192,14 +202,27 @@ static int take_effects(struct shard *s, const struct receiving *of, uint64_t nu
     return answer;
 }
 
-static int take_accepted(struct shard *s, struct receiving *of, const struct carried *it,
-                         uint64_t demanded)
+/* The frame of the demanded number, whose record is read. */
+static int take_accepted(struct shard *s, struct receiving *of, const struct carried *it, uint32_t kind,
+                         size_t size)
 {
-    const struct krbrelay_taken taken = { .demanded = demanded, .accepted = 1 };
-    uint32_t outcome;
-    of->tries = 0;
+    const struct krbrelay_seen seen = { .accepted = 1, .is_close = kind == KRBRELAY_CLOSE };
+    uint64_t number = of->end.drafted.number, began = nanoseconds();
+    uint32_t outcome = 0;
+    int done;
+    if (krbrelay_receiving_take(&of->end, it->frame, it->len, &seen, &outcome) != KRBRELAY_OK
+        || outcome != KRBRELAY_OUTCOME_ACCEPTED)
+        return -1; /* never: what the store has, and what was taken since, is where both are */
+    of->now.at = it->offset;
+    of->now.missed = KRBRELAY_MISSED_NOTHING;
+    of->has_opened = 1;
+    note_changed(s, of);
+    goes_on(s, of);
     s->counts.accepted++;
-    return take_place(s, of, it->offset, &taken, KRBRELAY_OK, &outcome);
+    s->open -= seen.is_close && s->open > 0;
+    done = take_effects(s, of, number, kind, size);
+    s->counts.storing += nanoseconds() - began;
+    return done;
 }
 
 /* The session's receiver, at what is stored, unless it is made. */
@@ -213,118 +236,147 @@ static int make_receiver(const struct shard *s, struct receiving *it)
     if (it->is_made)
         return 0;
     answer = krbrelay_receiver_new(&it->receiver, of->etype, of->key, of->key_len, &expect,
-                                   it->stored.next, it->stored.closed);
+                                   it->end.drafted.number, it->end.drafted.closed);
     it->is_made = answer == KRBRELAY_OK;
     if (!it->is_made)
-        report_answer("receiver_unmade", of->name, it->stored.next, answer);
+        report_answer("receiver_unmade", of->name, it->end.drafted.number, answer);
     return it->is_made ? 0 : -1;
 }
 
-/* An opening that came under the name of its session; another one of it is a repeat. */
+/* An opening stands before the first number: it is a repeat, for which a receipt is owed, also where it begins
+ * the session. */
 static int take_opening(struct shard *s, struct receiving *of, const struct carried *it)
 {
+    const struct krbrelay_seen seen = { .has_opened = 1, .opened = of->of.first - 1 };
+    uint32_t outcome = 0;
+    if (krbrelay_receiving_take(&of->end, it->frame, it->len, &seen, &outcome) != KRBRELAY_OK)
+        return -1;
     if (it->offset != of->opened_at) {
-        take_repeat(s, of);
+        s->counts.repeats++;
         return 0;
     }
     s->counts.opened++;
-    if (take_accepted(s, of, it, of->of.first) != 0)
-        return -1;
-    of->passed = it->offset; /* if one before it was passed by, that note ends */
-    if (s->unopened.at == 0)
-        s->unopened.tries = 0; /* none is known that can't be taken */
+    of->now.at = it->offset;
+    note_changed(s, of);
     log_fact(LEVEL_INFO, "session_opened", field_text("session", of->of.name),
              field_number("shard", s->number), field_text("client", of->opened->client),
              field_text("stream", of->opened->stream), field_text("before", of->opened->before));
     return 0;
 }
 
+/* A frame of a session that may not begin yet: it is asked for again. */
+static int take_before_turn(struct shard *s, struct receiving *of, const struct carried *it)
+{
+    const struct krbrelay_seen seen = { .has_opened = 1, .opened = of->of.first };
+    uint32_t outcome = 0;
+    s->counts.early++;
+    log_fact(LEVEL_WARNING, "frame_early", field_text("session", it->session),
+             field_number("shard", s->number), field_number("offset", it->offset),
+             field_text("before", of->opened->before),
+             field_text("text", "it has to come again after the close of the session before"));
+    if (krbrelay_receiving_take(&of->end, it->frame, it->len, &seen, &outcome) != KRBRELAY_OK)
+        return -1;
+    note_missed(s, of, KRBRELAY_MISSED_EARLY);
+    stands(s, of);
+    return 0;
+}
+
+/* Whether nothing of a session by a ticket took effect, and its turn hasn't come. */
+static int is_before_turn(struct shard *s, const struct receiving *of)
+{
+    return of->opened != NULL && of->end.drafted.number == of->of.first
+           && shard_judge(s, of) != KRBRELAY_JUDGED_BEGINS;
+}
+
 /* Takes one frame of a session, within a transaction. */
 static int take(struct shard *s, struct receiving *of, const struct carried *it)
 {
     struct krbrelay_moment now = read_clock();
-    uint64_t began = nanoseconds(), demanded = 0;
+    uint64_t began = nanoseconds();
     enum krbrelay_answer answer;
-    uint32_t kind = 0, closed = 0;
+    uint32_t kind = 0;
     size_t size = 0;
     int done;
+    note_taken(s, of);
     if (of->opened != NULL && opening_is(it->frame, it->len))
         return take_opening(s, of, it);
+    if (is_before_turn(s, of))
+        return take_before_turn(s, of, it);
     if (make_receiver(s, of) != 0)
         return -1;
-    answer = krbrelay_receiver_state(&of->receiver, &demanded, &closed);
-    if (answer == KRBRELAY_OK && demanded == of->of.first && !shard_has_turn(s, of)) {
-        return take_before_turn(s, of, it, demanded);
-    }
-    if (answer == KRBRELAY_OK)
-        answer = krbrelay_receiver_take(&of->receiver, it->frame, it->len, &now, &kind, s->bytes,
-                                        KRBRELAY_FRAME_LIMIT, &size);
-    if (answer != KRBRELAY_OK) {
-        done = take_refusal(s, of, it, demanded, answer);
-        s->counts.opening += nanoseconds() - began;
-        return done;
-    }
+    answer = krbrelay_receiver_take(&of->receiver, it->frame, it->len, &now, &kind, s->bytes,
+                                    KRBRELAY_FRAME_LIMIT, &size);
+    done = answer == KRBRELAY_OK ? 0 : take_refusal(s, of, it, answer);
     s->counts.opening += nanoseconds() - began;
-    if (take_accepted(s, of, it, demanded) != 0
-        || history_add(&of->now.history, it->frame, it->len) != 0)
-        return -1;
-    s->open -= kind == KRBRELAY_CLOSE && s->open > 0;
-    began = nanoseconds();
-    done = take_effects(s, of, demanded, kind, size);
-    s->counts.storing += nanoseconds() - began;
-    return done;
+    return answer == KRBRELAY_OK ? take_accepted(s, of, it, kind, size) : done;
 }
 
 /* ---- The frames of one transaction */
 
-/* Moves a session that this transaction changed. */
-static int advance(struct shard *s, struct receiving *it)
+/* The row that this transaction leaves. */
+static void draft(struct receiving *it)
 {
-    struct demand *now = &it->now;
-    if (it->is_made
-        && krbrelay_receiver_state(&it->receiver, &now->next, &now->closed) != KRBRELAY_OK)
-        return -1;
-    if (now->closed)
-        now->missed = KRBRELAY_MISSED_NOTHING;
-    if (store_advance(s->store, it->of.name, &it->stored, now) != 0)
-        return -1;
-    if (it->passed > 0 && store_find(s->store, s->number, it->of.name) != 0)
-        return -1;
-    if (it->opened_at > 0 && kept_add(s->store, s->kerberos, s->number, it->opened) != 0)
-        return -1;
-    it->opened_at = 0;
-    shard_owe(s, it);
-    now->is_stored = 1;
-    it->stored = *now;
-    it->is_changed = 0;
-    it->passed = 0;
-    return 0;
+    const struct krbrelay_row *row = &it->end.drafted;
+    it->now.next = row->number;
+    it->now.closed = row->closed;
+    memcpy(it->now.history.bytes, row->history, sizeof row->history);
+    if (row->closed)
+        it->now.missed = KRBRELAY_MISSED_NOTHING;
 }
 
 static int advance_all(struct shard *s)
 {
     size_t i;
-    for (i = 0; i < s->changed.count; i++)
-        if (advance(s, s->changed.at[i]) != 0)
+    for (i = 0; i < s->changed.count; i++) {
+        struct receiving *it = s->changed.at[i];
+        draft(it);
+        if (store_advance(s->store, it->of.name, &it->stored, &it->now) != 0)
             return -1;
-    s->changed.count = 0;
+        if (it->opened_at > 0 && kept_add(s->store, s->kerberos, s->number, it->opened) != 0)
+            return -1;
+    }
     return 0;
+}
+
+/* The transaction took effect. */
+static int note_stored(struct shard *s)
+{
+    size_t i;
+    int answer = krbrelay_reading_stored(&s->reading) == KRBRELAY_OK ? 0 : -1;
+    for (i = 0; i < s->changed.count; i++) {
+        struct receiving *it = s->changed.at[i];
+        it->now.is_stored = 1;
+        it->stored = it->now;
+        it->is_changed = 0;
+        it->opened_at = 0;
+    }
+    for (i = 0; i < s->taken.count && answer == 0; i++) {
+        struct receiving *it = s->taken.at[i];
+        it->is_taken = 0;
+        answer = krbrelay_receiving_stored(&it->end) == KRBRELAY_OK ? 0 : -1;
+        if (it->end.owed != 0)
+            shard_owe(s, it);
+    }
+    s->changed.count = s->taken.count = s->news.count = 0;
+    return answer;
 }
 
 /* Answers as store_commit. */
 static int take_all(struct shard *s, int count)
 {
-    const struct reached to = { s->now.incarnation, s->frames[count - 1].offset };
+    const struct reached from = { s->reading.stored.list, s->reading.stored.offset };
+    const struct reached to = { s->reading.read.list, s->reading.read.offset };
     uint64_t began = nanoseconds();
     int i, answer = shard_load_frames(s, count);
     if (answer == 0)
-        answer = store_begin(s->store, s->number, &s->stored, &to);
-    if (answer == 0 && s->least > 0) /* before it may be noted again */
-        answer = store_find(s->store, s->number, "");
+        answer = store_begin(s->store, s->number, &from, &to);
     s->counts.storing += nanoseconds() - began;
-    for (i = 0; i < count && answer == 0; i++)
-        answer = s->of_frames[i] != NULL ? take(s, s->of_frames[i], &s->frames[i])
-                                         : take_unknown(s, &s->frames[i]);
+    for (i = 0; i < count && answer == 0; i++) {
+        if (s->of_frames[i] != NULL)
+            answer = take(s, s->of_frames[i], &s->frames[i]);
+        else
+            take_unknown(s, &s->frames[i]);
+    }
     began = nanoseconds();
     if (answer == 0)
         answer = advance_all(s);
@@ -336,10 +388,8 @@ static int take_all(struct shard *s, int count)
     s->counts.commits += answer == 0;
     s->counts.aside += answer == 0 ? s->aside : 0;
     s->aside = 0;
-    if (answer == 0) {
-        s->stored = s->now = to;
-        s->least = s->news.count = 0;
-    }
+    if (answer == 0)
+        return note_stored(s);
     if (s->news.count > 0) /* what the openings brought isn't stored */
         shard_forget(s);
     return answer;
@@ -367,17 +417,13 @@ static int be_loaded(struct shard *s, int milliseconds)
     return answer == 0 ? 1 : answer > 0 ? 0 : -1;
 }
 
-int shard_step(struct shard *s, int milliseconds)
+/* Fetches frames: how many are for the next transaction. */
+static int fetch(struct shard *s, int milliseconds)
 {
-    uint64_t began;
-    int count, answer = be_loaded(s, milliseconds);
-    if (answer != 1)
-        return answer;
-    shard_pay(s);
-    shard_go_back(s, 0);
-    shard_look_back(s);
-    began = nanoseconds();
-    count = carrier_fetch(s->carrier, s->frames, s->options->batch, milliseconds);
+    struct krbrelay_reading *reading = &s->reading;
+    uint64_t began = nanoseconds(), last;
+    uint32_t read = KRBRELAY_READ_NOTHING;
+    int count = carrier_fetch(s->carrier, s->frames, s->options->batch, milliseconds);
     if (count >= 0)
         s->answered = nanoseconds();
     if (count == CARRIER_CHANGED)
@@ -386,8 +432,24 @@ int shard_step(struct shard *s, int milliseconds)
         return 0;
     s->counts.fetching += nanoseconds() - began;
     s->counts.frames += (unsigned long)count;
-    if (s->frames[count - 1].offset > s->highest)
-        shard_hear(s, s->frames[count - 1].offset);
+    last = s->frames[count - 1].offset;
+    if (krbrelay_reading_frames(reading, reading->read.list, last, last - reading->read.offset, &read)
+            != KRBRELAY_OK || read != KRBRELAY_READ_TAKE) {
+        s->is_loaded = 0;
+        return 0;
+    }
+    return count;
+}
+
+int shard_step(struct shard *s, int milliseconds)
+{
+    int count, answer = be_loaded(s, milliseconds);
+    if (answer != 1)
+        return answer;
+    shard_pay(s);
+    count = fetch(s, milliseconds);
+    if (count == 0)
+        return 0;
     answer = take_all(s, count);
     if (answer == 0) {
         shard_pay(s);
@@ -425,7 +487,7 @@ void shard_use(struct shard *s, struct sessions *sessions)
     shard_forget(s);
     sessions_forget(s->sessions);
     s->sessions = sessions_share(sessions);
-    s->is_loaded = s->has_begun = 0;
+    s->is_loaded = 0;
 }
 
 void shard_stop(struct shard *s)

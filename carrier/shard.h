@@ -1,27 +1,13 @@
 /* What a receiver does for one shard: it takes what the carrier has after the stored offset, some
  * frames at a time, and passes each to the receiver of its session, which libkrbrelay keeps. One
  * transaction has the effects of their texts, what the sessions demand next, and the new offset.
- * The offset is the acknowledgement: whoever continues begins after it. Nothing is acknowledged
- * singly.
+ * The offset is the acknowledgement of the list: whoever continues begins after it.
  *
- * What is refused is passed by, but not forgotten:
- *  - A repeat has taken its effect, and what doesn't open under a key that has opened other frames
- *    is nobody's: that is final.
- *  - A frame that came early comes again after those before it (progress.h). If the session still
- *    stands after some seconds, the carrier's offsets aren't what they were, and the shard is read
- *    again from the session's last accepted frame on.
- *  - A frame that is refused for a reason that may be this receiver's own (its clock, the skew,
- *    the key, addresses) isn't settled. The session keeps the place before it, and the shard is
- *    read again from there.
- *  - Of a name that is no session's of the shard the store notes the first frame that was passed
- *    by. Once it is a session's, the shard is read again from there.
- *  - Where offsets aren't what they were, the last frames of a session may stand before the offset,
- *    and nothing comes early after them. So the end of a shard in which nothing comes any more is
- *    read once more.
- * What was read again and refused again waits for longer each time, and reaches further back. A
- * receiver that begins, perhaps with other options, goes back at once to the least place of a
- * session that stands. All that takes effect meanwhile are texts whose turn it is: repeats are
- * refused.
+ * It reads forward only, and never goes back to what it has refused: krb_engine (docs/ENGINE.md) says of each
+ * frame what it is taken for, and which receipt is owed. A session whose demanded frame is missing, or was
+ * refused for a reason that may pass (this receiver's clock, the skew, addresses), asks for it by its receipt.
+ * Of what opens under no key here, and of names that have no line, nothing is said: their senders hear of no
+ * receipt, and send them again.
  *
  * Each transaction compares the shard, and each session of which a frame was accepted or wasn't
  * settled.
@@ -55,17 +41,15 @@ struct receiving {
     uint64_t opened_at;            /* where its opening is, if this transaction takes it; or 0 */
     struct krbrelay_receiver receiver; /* made with the first frame after loading */
     struct krbrelay_opener opener; /* looks at what was refused; made when it is first needed */
+    struct krbrelay_receiving end; /* what is stored and drafted, and which receipt is owed: krb_engine's */
     struct demand stored, now;     /* what the store has, and what it shall have, */
     unsigned long turn;            /* as of this turn of the shard's loading */
     int is_made;                   /* the receiver is what is stored, and what followed */
-    int is_changed;
-    uint64_t passed;               /* the offset of a frame that was passed by (store_pass), or 0 */
     int has_opened;                /* a frame opened: the key is right */
-    int owes;                      /* a receipt, */
-    uint64_t receipted;            /* of which the last was sealed at this moment */
-    int is_standing;               /* it is in the list of those that stand: */
-    uint64_t since;                /* since this moment, */
-    unsigned tries;                /* and so often the shard was read again for it */
+    int is_changed;                /* it is in the list of those that this transaction moves, */
+    int is_taken;                  /* of those of which a frame was taken in it, */
+    int is_owing;                  /* of those that owe a receipt, */
+    int is_standing;               /* and of those that stand: the last frame wasn't accepted */
 };
 
 /* What the library answers of a frame that it refuses (answers.toml: reasons). */
@@ -83,16 +67,11 @@ enum {
 };
 
 struct shard_counts {
-    unsigned long frames, texts, aside, accepted, repeats, early, fenced, commits, back, opened,
-        receipts;
+    unsigned long frames, texts, aside, accepted, repeats, early, fenced, commits, opened, receipts;
     unsigned long refused[REFUSALS]; /* neither as repeats nor as early */
     unsigned long long bytes;
     uint64_t opening, fetching, storing; /* nanoseconds */
 };
-
-/* An opening that wasn't taken is tried again, which may help: the shard is read again from the
- * first one on after some seconds, and when it is begun. */
-struct unopened { uint64_t at, since; unsigned tries; }; /* at an offset, or 0: there is none */
 
 /* Some of a shard's sessions. */
 struct receivings { struct receiving **at; size_t count; };
@@ -106,26 +85,19 @@ struct shard {
     struct carrier *carrier;
     void *receivings;              /* tsearch's tree of a struct receiving for each session */
     size_t count, room;            /* so many there are, and those below have room in these: */
-    struct receivings changed;     /* those that this transaction moves */
+    struct receivings changed, taken, owing, standing; /* in which each is once */
     unsigned long aside;           /* texts that this transaction puts aside */
-    struct receivings owing;       /* those that owe a receipt */
-    struct receivings standing;    /* those that stand, or did a moment ago */
     struct receivings asked;       /* those of which the store is asked */
     const char **names;            /* of those */
     struct carried *frames;
     struct receiving **of_frames;  /* of each frame the session, or NULL */
-    struct reached stored, now;    /* how far the store says that it was read, and where it is */
+    struct krbrelay_reading reading; /* how far it was read, as stored and as taken: krb_engine's */
     int has_wrapped;               /* keys that are stored are wrapped under the newest one */
-    struct unopened unopened;      /* openings that weren't taken */
     struct receivings news;        /* those whose openings this transaction takes */
     char unknown[CARRIER_NAME];    /* the last name that the store was asked for in vain */
-    uint64_t least;                /* of a note of other names: from there on all is read again; 0:
-                                    * there is none */
-    uint64_t highest, heard;       /* the greatest offset of a frame, and when that one came */
     uint64_t answered;             /* when the carrier answered last */
-    int has_looked;                /* the shard's end was read once more since */
     unsigned long turn;            /* so often it was loaded */
-    int is_loaded, has_begun;
+    int is_loaded;
     size_t open;                   /* if it is asked for, so many sessions aren't closed */
     uint8_t *bytes;                /* of one record */
     struct shard_counts counts;
@@ -182,42 +154,18 @@ void shard_forget(struct shard *shard);
  * after a fault. */
 int shard_find_opened(struct shard *shard, const struct carried *it, struct receiving **found);
 
-/* Those that stand, or of which a frame was passed by. 0, or -1 after a fault. */
-int shard_find_standing(struct shard *shard);
-
 /* Finds the session of the stream before this one, if it is stored. 0, or -1 after a fault. */
 int shard_find_before(struct shard *shard, const struct receiving *of, struct receiving **found);
 
-/* Whether a session's first record may be taken: the session before it is closed. */
-int shard_has_turn(struct shard *shard, const struct receiving *of);
-
-/* The opening at this offset is to be read again. */
-void shard_note_unopened(struct shard *shard, uint64_t offset);
+/* What krb_engine takes a session's beginning for, KRBRELAY_JUDGED_*, by the session of its stream before it. */
+uint32_t shard_judge(struct shard *shard, const struct receiving *of);
 
 /* ---- shard_receipts.c */
 
-/* The session owes a receipt; all receipts that are due are sealed and published; none is owed. */
+/* The session may owe a receipt; all receipts that are due are sealed and published; none is owed. */
 void shard_owe(struct shard *shard, struct receiving *it);
 void shard_pay(struct shard *shard);
 void shard_pay_rest(struct shard *shard); /* before it ends: however short the time is */
 void shard_owe_nothing(struct shard *shard);
-
-/* ---- shard_back.c: how a shard is read again. */
-
-/* This session stands at its place. */
-void shard_stands(struct shard *shard, struct receiving *it);
-
-/* Goes back if a session has stood for long enough, or, where all_at_once is 1, to the least
- * place. */
-void shard_go_back(struct shard *shard, int all_at_once);
-
-/* No frame beyond this offset has come. From now on the shard is quiet until one does. */
-void shard_hear(struct shard *shard, uint64_t offset);
-
-/* Goes back from the end, once, if the shard has been quiet for long enough. */
-void shard_look_back(struct shard *shard);
-
-/* The session's row is to be compared and moved. */
-void shard_note_changed(struct shard *shard, struct receiving *it);
 
 #endif

@@ -1,5 +1,7 @@
+#include "clock.h"
 #include "kept.h"
 #include "log.h"
+#include "receipts.h"
 #include "shard.h"
 
 #include <search.h>
@@ -46,7 +48,7 @@ static int grow(struct shard *s)
         return 1;
     if (!grow_list(&s->changed, room) || !grow_list(&s->standing, room)
         || !grow_list(&s->asked, room) || !grow_list(&s->news, room)
-        || !grow_list(&s->owing, room)
+        || !grow_list(&s->owing, room) || !grow_list(&s->taken, room)
         || (names = realloc(s->names, room * sizeof *names)) == NULL)
         return 0;
     s->names = names;
@@ -77,7 +79,7 @@ int shard_find(struct shard *s, const char *name, struct receiving **it)
     if (*it != NULL)
         return 1;
     is_there = sessions_find(s->sessions, name, &of) && of.shard == s->number;
-    if (is_there)
+    if (is_there && receipt_key(&of) == 0)
         *it = shard_add(s, &of);
     explicit_bzero(&of, sizeof of);
     if (!is_there || *it != NULL)
@@ -95,8 +97,9 @@ void shard_forget(struct shard *s)
     free(s->asked.at);
     free(s->news.at);
     free(s->owing.at);
+    free(s->taken.at);
     free(s->names);
-    s->changed = s->standing = s->asked = s->news = s->owing = (struct receivings){ NULL, 0 };
+    s->changed = s->standing = s->asked = s->news = s->owing = s->taken = (struct receivings){ NULL, 0 };
     s->names = NULL;
     s->count = s->room = 0;
 }
@@ -112,13 +115,12 @@ static void ask(struct shard *s, struct receiving *it)
     it->stored = (struct demand){ .next = it->of.first, .shard = (int32_t)s->number,
                                   .history = { .is_known = 1 } }; /* of no frames */
     it->is_made = 0;
-    it->passed = 0;
     s->names[s->asked.count] = it->of.name;
     s->asked.at[s->asked.count++] = it;
 }
 
 /* The same of the session of its stream before it. */
-static int ask_before(struct shard *s, const struct receiving *it, uint64_t offset)
+static int ask_before(struct shard *s, const struct receiving *it)
 {
     struct receiving *before;
     if (it->opened == NULL || shard_find_before(s, it, &before) != 0)
@@ -126,11 +128,16 @@ static int ask_before(struct shard *s, const struct receiving *it, uint64_t offs
     if (before == NULL || before->turn == s->turn)
         return 0;
     ask(s, before);
-    before->now.at = offset;
     return 0;
 }
 
-/* Makes it what the next transaction makes it, if that moves the shard to another list. */
+/* Whether the next transaction moves the shard to another list. */
+static int is_other_list(const struct shard *s)
+{
+    return s->reading.stored.list != 0 && s->reading.stored.list != s->reading.read.list;
+}
+
+/* Makes it what that transaction makes it. */
 static void reset(struct demand *stored)
 {
     stored->at = 0;
@@ -145,24 +152,23 @@ static int note_stored(void *given, const char *name, const struct demand *deman
     if (found != 1)
         return found;
     it->stored = *demand;
-    if (store_is_other(&s->stored, &s->now) && demand->shard == (int32_t)s->number)
+    if (is_other_list(s) && demand->shard == (int32_t)s->number)
         reset(&it->stored);
     return 0;
 }
 
-/* What this receiver makes of a session's row. If the store doesn't know it, or knows it in another
- * shard, its frames up to this offset are none, or are noted. */
-static void place_session(const struct shard *s, struct receiving *it, uint64_t offset)
+/* What this receiver makes of a session's row. */
+static void place_session(const struct shard *s, struct receiving *it)
 {
-    uint64_t before = it->now.next;
+    struct krbrelay_row row = { .number = it->stored.next, .closed = it->stored.closed };
+    memcpy(row.history, it->stored.history.bytes, sizeof row.history);
+    krbrelay_receiving_load(&it->end, &row, milliseconds());
     it->now = it->stored;
     if (!it->stored.is_stored || it->stored.shard != (int32_t)s->number) {
-        it->now.at = offset;
+        it->now.at = 0;
         it->now.shard = (int32_t)s->number;
         it->now.missed = KRBRELAY_MISSED_NOTHING;
     }
-    if (it->now.next != before)
-        it->tries = 0;
 }
 
 /* Asks the store of the sessions that are noted for it. */
@@ -192,14 +198,13 @@ int shard_load_frames(struct shard *s, int count)
         if (found == 0 || s->of_frames[i]->turn == s->turn)
             continue;
         ask(s, s->of_frames[i]);
-        s->of_frames[i]->now.at = s->frames[i].offset - 1; /* until it is placed */
-        if (ask_before(s, s->of_frames[i], s->frames[i].offset - 1) != 0)
+        if (ask_before(s, s->of_frames[i]) != 0)
             return -1;
     }
     if (ask_store(s) != 0)
         return -1;
     for (each = 0; each < s->asked.count; each++)
-        place_session(s, s->asked.at[each], s->asked.at[each]->now.at);
+        place_session(s, s->asked.at[each]);
     return 0;
 }
 
@@ -210,87 +215,12 @@ static void begin_turn(struct shard *s)
 {
     size_t i;
     s->turn++;
-    s->least = 0;
     for (i = 0; i < s->changed.count; i++)
         s->changed.at[i]->is_changed = 0;
-    s->changed.count = 0;
+    for (i = 0; i < s->taken.count; i++)
+        s->taken.at[i]->is_taken = 0;
+    s->changed.count = s->taken.count = 0;
     shard_owe_nothing(s);
-    for (i = 0; i < s->standing.count; i++) /* until the store says that they still do */
-        s->standing.at[i]->now.missed = KRBRELAY_MISSED_NOTHING;
-}
-
-static int note_standing(void *given, const char *name, const struct demand *demand)
-{
-    struct shard *s = given;
-    struct receiving *it;
-    int found = shard_find(s, name, &it);
-    if (found != 1)
-        return found;
-    s->asked.count = 0;
-    ask(s, it);
-    it->stored = *demand;
-    place_session(s, it, 0);
-    shard_stands(s, it);
-    return 0;
-}
-
-/* A frame was passed by when its receiver had no such session: now it has to be read. */
-static int note_passed(void *given, const char *name, uint64_t offset)
-{
-    struct shard *s = given;
-    struct receiving *it;
-    int found = 0;
-    if (*name == 0)
-        s->least = offset;
-    else
-        found = shard_find(s, name, &it);
-    if (found == 0 && s->kerberos != NULL && *name != 0)
-        shard_note_unopened(s, offset);
-    if (found != 1)
-        return found;
-    if (it->turn != s->turn) {
-        ask(s, it);
-        it->now.at = offset - 1; /* until it is placed */
-    }
-    it->passed = offset;
-    shard_note_changed(s, it);
-    return 0;
-}
-
-static void place_passed(struct shard *s, struct receiving *it)
-{
-    if (it->now.closed)
-        return;
-    it->now.missed = missed_by(0);
-    shard_stands(s, it);
-}
-
-static int load_passed(struct shard *s)
-{
-    size_t i;
-    s->asked.count = 0;
-    if (store_passed(s->store, s->number, note_passed, s) != 0 || ask_store(s) != 0)
-        return -1;
-    for (i = 0; i < s->asked.count; i++)
-        place_session(s, s->asked.at[i], s->asked.at[i]->now.at);
-    for (i = 0; i < s->changed.count; i++)
-        place_passed(s, s->changed.at[i]);
-    return 0;
-}
-
-/* Makes all what the store has: first how far the shard was read, and then the sessions (store.h
- * says why in this order). */
-static int load_stored(struct shard *s)
-{
-    begin_turn(s);
-    if (store_reached(s->store, s->number, &s->stored) != 0)
-        return -1;
-    s->now = s->stored;
-    if (s->kerberos != NULL && shard_find_standing(s) != 0)
-        return -1;
-    if (store_standing(s->store, s->number, note_standing, s) != 0)
-        return -1;
-    return load_passed(s);
 }
 
 static int count_closed(void *given, const char *name, const struct demand *demand)
@@ -325,48 +255,39 @@ static int count_open(struct shard *s)
     return answer;
 }
 
-static void begin_session_anew(struct receiving *it)
+/* Where the shard is read on, by krb_engine: not from where it was, if it is another list, or was cut off. */
+static int place_reading(struct shard *s, uint64_t list, uint64_t end)
 {
-    reset(&it->stored);
-    reset(&it->now);
-    it->passed = 0;
-}
-
-/* The shard is another list than the one that was read: all places are at its beginning. The next
- * transaction makes them so in the store. */
-static void begin_anew(struct shard *s)
-{
-    size_t i;
-    log_fact(LEVEL_WARNING, "shard_made_anew", field_number("shard", s->number),
-             field_text("text", "it is read from its beginning"));
-    s->now.offset = s->least = s->unopened.at = 0;
-    shard_hear(s, 0);
-    for (i = 0; i < s->standing.count; i++)
-        begin_session_anew(s->standing.at[i]);
-    for (i = 0; i < s->changed.count; i++)
-        begin_session_anew(s->changed.at[i]);
+    struct krbrelay_reading *it = &s->reading;
+    uint32_t read = KRBRELAY_READ_NOTHING;
+    if (krbrelay_reading_frames(it, list, end, 0, &read) != KRBRELAY_OK)
+        return -1;
+    if (read == KRBRELAY_READ_ELSEWHERE && it->stored.list != 0)
+        log_fact(LEVEL_WARNING, it->stored.list != list ? "shard_made_anew" : "shard_lost_frames",
+                 field_number("shard", s->number), field_number("end", end),
+                 field_number("offset", it->stored.offset), field_number("from", it->read.offset),
+                 field_text("text", "it is read on from there: what didn't take effect comes again"));
+    return 0;
 }
 
 int shard_load(struct shard *s)
 {
-    uint64_t incarnation = 0;
+    uint64_t list = 0, end = 0;
+    struct reached reached;
     if (s->store == NULL && (s->store = store_open(s->options->store, s->number)) == NULL)
         return -1;
-    if (load_stored(s) != 0 || (s->options->until_closed && count_open(s) != 0))
+    begin_turn(s);
+    if (store_reached(s->store, s->number, &reached) != 0
+        || (s->options->until_closed && count_open(s) != 0))
         return -1;
-    if (carrier_incarnation(s->carrier, s->number, &incarnation) != 0 || incarnation == 0)
+    krbrelay_reading_load(&s->reading, reached.incarnation, reached.offset);
+    if (carrier_incarnation(s->carrier, s->number, &list, &end) != 0 || list == 0)
         return 1;
-    s->now = (struct reached){ incarnation, s->stored.offset };
     if (s->kerberos != NULL && !s->has_wrapped) /* without the keytab others go on */
         s->has_wrapped = kept_wrap_anew(s->store, s->kerberos, s->number) == 0;
-    if (!s->has_begun)
-        shard_hear(s, s->now.offset);
-    if (s->stored.incarnation != 0 && s->stored.incarnation != incarnation)
-        begin_anew(s);
-    carrier_seek(s->carrier, s->number, s->now.offset);
-    if (s->has_begun)
-        s->least = 0; /* it was read again from the note of other names when this receiver began */
-    shard_go_back(s, !s->has_begun);
-    s->has_begun = s->is_loaded = 1;
+    if (place_reading(s, list, end) != 0)
+        return -1;
+    carrier_seek(s->carrier, s->number, s->reading.read.offset);
+    s->is_loaded = 1;
     return 0;
 }

@@ -65,18 +65,6 @@ static int note_found(void *given, const struct opened *it)
     return sought->found != NULL ? 0 : -1;
 }
 
-static int note_standing(void *given, const struct opened *it)
-{
-    struct receiving *known;
-    int found = shard_find(given, it->name, &known);
-    return found == 1 || (found == 0 && add(given, it) != NULL) ? 0 : -1;
-}
-
-int shard_find_standing(struct shard *s)
-{
-    return kept_find_standing(s->store, s->kerberos, s->number, note_standing, s);
-}
-
 /* The session of this name: 1, 0 and NULL if the store has none, -1 after a fault. */
 static int find_stored(struct shard *s, const char *name, struct receiving **found)
 {
@@ -102,62 +90,55 @@ int shard_find_before(struct shard *s, const struct receiving *of, struct receiv
     return answer >= 0 ? 0 : -1;
 }
 
-static int is_closed(struct receiving *it)
+/* The stream's session before this one as krb_engine's head of the stream: none, unless the store has it. */
+static struct krbrelay_head head_before(struct shard *s, const struct receiving *of, int *is_known)
 {
-    uint64_t next;
-    uint32_t closed = 0;
-    if (!it->is_made)
-        return it->now.closed != 0;
-    return krbrelay_receiver_state(&it->receiver, &next, &closed) == KRBRELAY_OK && closed != 0;
-}
-
-/* The session of the stream before this one, if it is closed, or NULL. */
-static const struct receiving *closed_before(struct shard *s, const struct receiving *of)
-{
+    struct krbrelay_head head = { 0 };
     struct receiving *before;
     if (shard_find(s, of->opened->before, &before) != 1 || before->turn != s->turn
         || before->opened == NULL || strcmp(before->opened->client, of->opened->client) != 0
-        || strcmp(before->opened->stream, of->opened->stream) != 0 || !is_closed(before))
-        return NULL;
-    return before;
+        || strcmp(before->opened->stream, of->opened->stream) != 0)
+        return head;
+    *is_known = before->stored.history.is_known;
+    head.turn = 1;
+    head.number = before->end.drafted.number;
+    head.closed = before->end.drafted.closed;
+    memcpy(head.history, before->end.drafted.history, sizeof head.history);
+    return head;
 }
 
-/* Whether the session before took other frames than its sender says: an outbox that was restored or
- * copied sealed this one. */
-static int is_forked(const struct receiving *of, const struct receiving *before)
+/* What an opening says of the session before it. Its number follows from the history. Where an older version
+ * doesn't tell that either, or the store doesn't know it, it isn't compared. */
+static struct krbrelay_opening told_of(const struct opened *it, const struct krbrelay_head *head, int is_known)
 {
-    const struct history *told = &of->opened->closed, *took = &before->now.history;
-    return told->is_known && took->is_known && !history_is(told, took);
+    struct krbrelay_opening opening = { .turn = it->before[0] != 0 ? 2 : 1, .number = head->number };
+    memcpy(opening.history, it->closed.is_known && is_known ? it->closed.bytes : head->history,
+           sizeof opening.history);
+    return opening;
 }
 
-int shard_has_turn(struct shard *s, const struct receiving *of)
+uint32_t shard_judge(struct shard *s, const struct receiving *of)
 {
-    const struct receiving *before;
-    if (of->opened == NULL || of->opened->before[0] == 0)
-        return 1;
-    before = closed_before(s, of);
-    if (before == NULL)
-        return 0;
-    if (!is_forked(of, before))
-        return 1;
-    log_fact(LEVEL_ERROR, "session_forked", field_text("session", of->of.name),
-             field_number("shard", s->number), field_text("before", before->of.name),
-             field_text("text", "the session before took other frames than this one's sender says: is its"
-                                " outbox an older copy, or is another copy of it used?"));
-    return 0;
+    struct krbrelay_head head = { 0 };
+    struct krbrelay_opening opening;
+    uint32_t judged = KRBRELAY_JUDGED_LATER;
+    int is_known = 0;
+    if (of->opened->before[0] != 0)
+        head = head_before(s, of, &is_known);
+    opening = told_of(of->opened, &head, is_known);
+    if (krbrelay_judge(&head, &opening, &judged) != KRBRELAY_OK)
+        return KRBRELAY_JUDGED_LATER;
+    if (judged == KRBRELAY_JUDGED_FORKED)
+        log_fact(LEVEL_ERROR, "session_forked", field_text("session", of->of.name),
+                 field_number("shard", s->number), field_text("before", of->opened->before),
+                 field_text("text", "the session before took other frames than this one's sender says: is"
+                                    " its outbox an older copy, or is another copy of it used?"));
+    return judged;
 }
 
 /* ---- By an opening */
 
-void shard_note_unopened(struct shard *s, uint64_t offset)
-{
-    if (s->unopened.at == 0)
-        s->unopened.since = nanoseconds();
-    if (s->unopened.at == 0 || offset < s->unopened.at)
-        s->unopened.at = offset;
-}
-
-/* An opening isn't taken now: it is read again. */
+/* An opening isn't taken now: its sender makes another one, as long as it hears of no receipt. */
 static int refuse(struct shard *s, const struct carried *it, enum opening_answer answer,
                   const struct opened *opened)
 {
@@ -166,8 +147,7 @@ static int refuse(struct shard *s, const struct carried *it, enum opening_answer
              field_number("shard", s->number), field_number("offset", it->offset),
              field_text("answer", opening_name(answer)), field_text("client", opened->client),
              field_text("stream", opened->stream),
-             field_text("text", "it is read again, and counts once it can be taken"));
-    shard_note_unopened(s, it->offset);
+             field_text("text", "its sender sends another one, which counts once it can be taken"));
     return 0;
 }
 

@@ -29,7 +29,6 @@ const struct metric shard_metrics[] = {
     { NAME "transactions_total", "counter", "Transactions that were committed", NULL },
     { NAME "fenced_transactions_total", "counter", "Transactions that another receiver preceded",
       NULL },
-    { NAME "read_again_total", "counter", "Times that the shard was read again", NULL },
     { NAME "opening_seconds_total", "counter", "Time for opening frames", NULL },
     { NAME "carrier_seconds_total", "counter", "Time for fetching frames", NULL },
     { NAME "store_seconds_total", "counter", "Time for effects and transactions", NULL },
@@ -79,7 +78,7 @@ void shard_report(const struct shard *s, const char *event, uint64_t took)
                 field_number("repeats", c->repeats),
                 field_number("early", c->early), field_number("refused", count_refused(c)),
                 field_number("commits", c->commits), field_number("fenced", c->fenced),
-                field_number("again", c->back), field_number("bytes", c->bytes),
+                field_number("bytes", c->bytes),
                 field_seconds("seconds", took), field_seconds("opening", c->opening),
                 field_seconds("carrier", c->fetching), field_seconds("store", c->storing));
 }
@@ -89,8 +88,7 @@ static void name_standing(struct shard *s, unsigned part)
     const char *names[SERVICE_NAMES];
     size_t i, count = 0;
     for (i = 0; i < s->standing.count && count < SERVICE_NAMES; i++)
-        if (s->standing.at[i]->now.missed != KRBRELAY_MISSED_NOTHING)
-            names[count++] = s->standing.at[i]->of.name;
+        names[count++] = s->standing.at[i]->of.name;
     service_name(part, names, count);
 }
 
@@ -106,8 +104,8 @@ void shard_show(struct shard *s, unsigned part)
         (double)c->receipts,
         (double)c->repeats,
         (double)c->early, (double)c->commits, (double)c->fenced,
-        (double)c->back, (double)c->opening / 1e9, (double)c->fetching / 1e9,
-        (double)c->storing / 1e9, (double)s->now.offset, is_known ? (double)behind : NAN,
+        (double)c->opening / 1e9, (double)c->fetching / 1e9,
+        (double)c->storing / 1e9, (double)s->reading.read.offset, is_known ? (double)behind : NAN,
         (double)s->count, (double)s->standing.count,
     };
     for (i = 0; i < REFUSALS; i++)

@@ -12,8 +12,7 @@
 
 enum { PENDING = 4096, POLL = 5 };
 enum {
-    INSERT, SELECT, SELECT_SINCE, SELECT_FIRST, SELECT_END, COUNT, ADD_RECEIPT, SELECT_RECEIPTS, SELECT_RECEIPT,
-    STATEMENTS
+    INSERT, SELECT, SELECT_END, COUNT, ADD_RECEIPT, SELECT_RECEIPTS, STATEMENTS
 };
 
 struct sqlite_carrier {
@@ -28,7 +27,6 @@ struct sqlite_carrier {
     /* Where the reader stands, and the frames of its last fetch. */
     unsigned shard;
     uint64_t after;
-    int is_checked; /* that the shard doesn't end before */
     sqlite3_int64 receipt; /* the last one that was given */
     uint8_t *frames;
     size_t room;
@@ -38,7 +36,6 @@ static const char tables[] =
     "CREATE TABLE IF NOT EXISTS carried (offset INTEGER PRIMARY KEY AUTOINCREMENT,"
     " shard INTEGER NOT NULL, session TEXT NOT NULL, frame BLOB NOT NULL);"
     "CREATE INDEX IF NOT EXISTS of_shard ON carried (shard, offset);"
-    "CREATE INDEX IF NOT EXISTS of_session ON carried (shard, session, offset);"
     "CREATE TABLE IF NOT EXISTS receipt (session TEXT PRIMARY KEY, turn INTEGER NOT NULL,"
     " receipt BLOB NOT NULL) WITHOUT ROWID;"
     "CREATE UNIQUE INDEX IF NOT EXISTS of_turn ON receipt (turn);"
@@ -50,25 +47,33 @@ static const char *const sql[STATEMENTS] = {
     [INSERT] = "INSERT INTO carried (shard, session, frame) VALUES (?, ?, ?)",
     [SELECT] = "SELECT offset, session, frame FROM carried WHERE shard = ? AND offset > ?"
                " ORDER BY offset LIMIT ?",
-    [SELECT_SINCE] = "SELECT offset, session, frame FROM carried WHERE shard = ? AND session = ?"
-                     " AND offset > ? ORDER BY offset",
-    [SELECT_FIRST] = "SELECT coalesce((SELECT min(offset) FROM carried),"
-                     " (SELECT seq + 1 FROM sqlite_sequence WHERE name = 'carried'), 1)",
     [COUNT] = "SELECT count(*) FROM (SELECT 1 FROM carried WHERE shard = ? AND offset > ?"
               " LIMIT 100000)",
     [ADD_RECEIPT] = ("INSERT INTO receipt VALUES (?1,"
                      " 1 + (SELECT coalesce(max(turn), 0) FROM receipt), ?2) ON CONFLICT (session) DO UPDATE SET turn = excluded.turn,"
                      " receipt = excluded.receipt"),
     [SELECT_RECEIPTS] = "SELECT turn, session, receipt FROM receipt WHERE turn > ? ORDER BY turn",
-    [SELECT_RECEIPT] = "SELECT turn, session, receipt FROM receipt WHERE session = ?",
     [SELECT_END] = "SELECT coalesce(max(offset), 0) FROM carried WHERE shard = ?",
 };
 
-static int incarnation(struct carrier *base, unsigned shard, uint64_t *incarnation)
+static int incarnation(struct carrier *base, unsigned shard, uint64_t *incarnation, uint64_t *end)
 {
     struct sqlite_carrier *c = (struct sqlite_carrier *)base;
-    (void)shard;
+    struct statement *select = &c->statements[SELECT_END];
+    int has_row;
+    bind_number(select, 1, shard);
+    has_row = step_row(select) == 1;
+    *end = has_row ? (uint64_t)sqlite3_column_int64(select->at, 0) : 0;
+    end_rows(select);
     *incarnation = c->incarnation;
+    return has_row ? 0 : CARRIER_FAULT;
+}
+
+/* The file is there, so each of its shards is. */
+static int make(struct carrier *base, unsigned shard, uint64_t *incarnation)
+{
+    (void)shard;
+    *incarnation = ((struct sqlite_carrier *)base)->incarnation;
     return 0;
 }
 
@@ -132,30 +137,6 @@ static void seek(struct carrier *base, unsigned shard, uint64_t offset)
     struct sqlite_carrier *c = (struct sqlite_carrier *)base;
     c->shard = shard;
     c->after = offset;
-    c->is_checked = 0;
-}
-
-/* A shard that ends before the offset has lost what it had confirmed, as a file that was restored
- * from a copy. What it has now is read from the beginning then: repeats are refused. */
-static int check_end(struct sqlite_carrier *c)
-{
-    struct statement *select = &c->statements[SELECT_END];
-    uint64_t end;
-    int has_row;
-    bind_number(select, 1, c->shard);
-    has_row = step_row(select) == 1;
-    end = has_row ? (uint64_t)sqlite3_column_int64(select->at, 0) : 0;
-    end_rows(select);
-    if (!has_row)
-        return -1;
-    if (end < c->after) {
-        log_fact(LEVEL_WARNING, "shard_lost_frames", field_number("shard", c->shard),
-                 field_number("end", end), field_number("offset", c->after),
-                 field_text("text", "it ends before: it is read from its beginning"));
-        c->after = 0;
-    }
-    c->is_checked = 1;
-    return 0;
 }
 
 /* Copies the frame of a row after the first `used` bytes; -1 where there is no room. A fetch's
@@ -204,44 +185,13 @@ static int fetch_now(struct sqlite_carrier *c, struct carried *list, size_t limi
 static int fetch(struct carrier *base, struct carried *list, size_t room, int milliseconds)
 {
     struct sqlite_carrier *c = (struct sqlite_carrier *)base;
-    int count;
-    if (!c->is_checked && check_end(c) != 0)
-        return -1;
-    count = fetch_now(c, list, room);
+    int count = fetch_now(c, list, room);
     while (count == 0 && milliseconds > 0) {
         pause_milliseconds(POLL);
         milliseconds -= POLL;
         count = fetch_now(c, list, room);
     }
     return count;
-}
-
-/* Whether no frame after the offset was deleted: all shards count in one row of offsets. */
-static int has_all_after(struct sqlite_carrier *c, uint64_t after, int *is_whole)
-{
-    struct statement *select = &c->statements[SELECT_FIRST];
-    int has_row = step_row(select) == 1;
-    if (has_row)
-        *is_whole = (uint64_t)sqlite3_column_int64(select->at, 0) <= after + 1;
-    end_rows(select);
-    return has_row ? 0 : CARRIER_FAULT;
-}
-
-static int since(struct carrier *base, unsigned shard, const char *session, uint64_t after,
-                 carrier_take *take, void *given, int *is_whole)
-{
-    struct sqlite_carrier *c = (struct sqlite_carrier *)base;
-    struct statement *select = &c->statements[SELECT_SINCE];
-    int row, answer = has_all_after(c, after, is_whole);
-    bind_number(select, 1, shard);
-    bind_text(select, 2, session);
-    bind_number(select, 3, (sqlite3_int64)after);
-    while (answer == 0 && (row = step_row(select)) != 0) {
-        struct carried it;
-        answer = row == 1 && copy_row(c, select, &it, 0) == 0 ? take(given, &it) : CARRIER_FAULT;
-    }
-    end_rows(select);
-    return answer;
 }
 
 static int behind(struct carrier *base, uint64_t *frames)
@@ -309,16 +259,6 @@ static int receipts(struct carrier *base, carrier_receipt *take, void *given)
     return give_receipts(&c->statements[SELECT_RECEIPTS], &c->receipt, take, given);
 }
 
-static int last_receipt(struct carrier *base, unsigned shard, const char *session,
-                        carrier_receipt *take, void *given)
-{
-    struct sqlite_carrier *c = (struct sqlite_carrier *)base;
-    sqlite3_int64 turn = 0;
-    (void)shard;
-    bind_text(&c->statements[SELECT_RECEIPT], 1, session);
-    return give_receipts(&c->statements[SELECT_RECEIPT], &turn, take, given);
-}
-
 /* ---- */
 
 static void close_it(struct carrier *base)
@@ -351,8 +291,7 @@ struct carrier *sqlite_carrier_open(const char *path)
     if (c == NULL)
         return NULL;
     c->base.incarnation = incarnation;
-    c->base.make = incarnation;
-    c->base.since = since;
+    c->base.make = make;
     c->base.publish = publish;
     c->base.confirmed = confirmed;
     c->base.seek = seek;
@@ -360,7 +299,6 @@ struct carrier *sqlite_carrier_open(const char *path)
     c->base.behind = behind;
     c->base.acknowledge = acknowledge;
     c->base.receipts = receipts;
-    c->base.last_receipt = last_receipt;
     c->base.close = close_it;
     if (open_it(c, path) == 0)
         return &c->base;

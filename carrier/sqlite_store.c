@@ -10,8 +10,7 @@
 #include <string.h>
 
 enum {
-    SELECT_REACHED, SELECT_SESSION, SELECT_STANDING, SELECT_PASSED, MOVE_SHARD, ADD_SESSION,
-    MOVE_SESSION, PASS_SESSION, FIND_SESSION, RESET_SESSIONS, FIND_ALL, STATEMENTS
+    SELECT_REACHED, SELECT_SESSION, MOVE_SHARD, ADD_SESSION, MOVE_SESSION, RESET_SESSIONS, STATEMENTS
 };
 enum { EFFECTS = 32 }; /* the most statements of effects, and others that callers give */
 
@@ -28,9 +27,7 @@ struct sqlite_store {
 static const char tables[] =
     "CREATE TABLE IF NOT EXISTS shard (shard INTEGER PRIMARY KEY, offset INTEGER NOT NULL);"
     "CREATE TABLE IF NOT EXISTS session (name TEXT PRIMARY KEY, next INTEGER NOT NULL,"
-    " closed INTEGER NOT NULL) WITHOUT ROWID;"
-    "CREATE TABLE IF NOT EXISTS passed (shard INTEGER NOT NULL, session TEXT NOT NULL,"
-    " at INTEGER NOT NULL, PRIMARY KEY (shard, session)) WITHOUT ROWID;";
+    " closed INTEGER NOT NULL) WITHOUT ROWID;";
 
 static const char *const columns[][2] = {
     { "shard", "incarnation INTEGER NOT NULL DEFAULT 0" },
@@ -47,9 +44,6 @@ static const char *const own_sql[STATEMENTS] = {
     [SELECT_REACHED] = "SELECT incarnation, offset FROM shard WHERE shard = ?",
     [SELECT_SESSION] = ("SELECT next, closed, missed, at, shard, name, history FROM session"
                         " WHERE name = ?"),
-    [SELECT_STANDING] = ("SELECT next, closed, missed, at, shard, name, history FROM session"
-                         " WHERE shard = ? AND missed != 0"),
-    [SELECT_PASSED] = "SELECT at, session FROM passed WHERE shard = ?",
     [MOVE_SHARD] = ("INSERT INTO shard (shard, incarnation, offset) SELECT ?1, ?4, ?5"
                     " WHERE ?2 = 0 AND ?3 = 0 OR ?1 IN (SELECT shard FROM shard)"
                     " ON CONFLICT (shard) DO UPDATE SET incarnation = ?4, offset = ?5"
@@ -62,12 +56,7 @@ static const char *const own_sql[STATEMENTS] = {
                       " next = ?2, closed = ?3, missed = ?4, at = ?5, shard = ?6, history = ?12"
                       " WHERE name = ?1 AND next = ?7 AND closed = ?8 AND missed = ?9 AND at = ?10"
                       " AND shard = ?11"),
-    [PASS_SESSION] = ("INSERT INTO passed SELECT ?1, CASE WHEN (SELECT count(*) FROM passed"
-                      " WHERE shard = ?1) < ?4 THEN ?2 ELSE '' END, ?3 WHERE true"
-                      " ON CONFLICT DO NOTHING"),
-    [FIND_SESSION] = "DELETE FROM passed WHERE shard = ? AND session = ?",
     [RESET_SESSIONS] = "UPDATE session SET at = 0, missed = 0 WHERE shard = ?",
-    [FIND_ALL] = "DELETE FROM passed WHERE shard = ?",
 };
 
 static int reached(struct store *base, unsigned shard, struct reached *reached)
@@ -122,27 +111,6 @@ static int sessions(struct store *base, const char *const *names, size_t count, 
     return answer;
 }
 
-static int standing(struct store *base, unsigned shard, store_take *take, void *given)
-{
-    struct statement *select = &((struct sqlite_store *)base)->statements[SELECT_STANDING];
-    bind_number(select, 1, shard);
-    return take_rows(select, take, given);
-}
-
-static int passed(struct store *base, unsigned shard, store_note *take, void *given)
-{
-    struct statement *select = &((struct sqlite_store *)base)->statements[SELECT_PASSED];
-    int row, answer = 0;
-    bind_number(select, 1, shard);
-    while (answer == 0 && (row = step_row(select)) != 0) {
-        const char *name = row == 1 ? (const char *)sqlite3_column_text(select->at, 1) : NULL;
-        uint64_t at = row == 1 ? (uint64_t)sqlite3_column_int64(select->at, 0) : 0;
-        answer = name == NULL || take(given, name, at) != 0 ? -1 : 0;
-    }
-    end_rows(select);
-    return answer;
-}
-
 /* Runs a statement that moves one row, if it stood where it was said. */
 static int move(struct sqlite_store *s, struct statement *statement)
 {
@@ -155,10 +123,9 @@ static int move(struct sqlite_store *s, struct statement *statement)
 /* The shard is another list than before. */
 static int reset_sessions(struct sqlite_store *s, unsigned shard)
 {
-    struct statement *reset = &s->statements[RESET_SESSIONS], *find = &s->statements[FIND_ALL];
+    struct statement *reset = &s->statements[RESET_SESSIONS];
     bind_number(reset, 1, shard);
-    bind_number(find, 1, shard);
-    return step_once(reset) == 0 && step_once(find) == 0 ? 0 : -1;
+    return step_once(reset);
 }
 
 static int begin(struct store *base, unsigned shard, const struct reached *from,
@@ -202,24 +169,6 @@ static int advance(struct store *base, const char *session, const struct demand 
         bind_demand(statement, 7, from);
     bind_text(statement, from->is_stored ? 12 : 7, history);
     return move(s, statement);
-}
-
-static int pass(struct store *base, unsigned shard, const char *session, uint64_t offset)
-{
-    struct statement *statement = &((struct sqlite_store *)base)->statements[PASS_SESSION];
-    bind_number(statement, 1, shard);
-    bind_text(statement, 2, session);
-    bind_number(statement, 3, (sqlite3_int64)offset);
-    bind_number(statement, 4, STORE_NOTED);
-    return step_once(statement);
-}
-
-static int find(struct store *base, unsigned shard, const char *session)
-{
-    struct statement *statement = &((struct sqlite_store *)base)->statements[FIND_SESSION];
-    bind_number(statement, 1, shard);
-    bind_text(statement, 2, session);
-    return step_once(statement);
 }
 
 static void rollback(struct store *base)
@@ -360,7 +309,6 @@ static int complete(sqlite3 *db)
     if (begin_writing(db) != 0)
         return -1;
     if (add_columns(db, columns, sizeof columns / sizeof *columns) == 0
-        && run(db, "CREATE INDEX IF NOT EXISTS standing ON session (shard) WHERE missed != 0") == 0
         && run(db, effect_tables_sqlite) == 0
         && add_columns(db, effect_columns, effect_column_count) == 0 && run(db, kept_tables) == 0
         && add_columns(db, opened_columns, 1) == 0 && run(db, "COMMIT") == 0)
@@ -387,12 +335,8 @@ struct store *sqlite_store_open(const char *path, unsigned shard)
         return NULL;
     s->base.reached = reached;
     s->base.sessions = sessions;
-    s->base.standing = standing;
-    s->base.passed = passed;
     s->base.begin = begin;
     s->base.advance = advance;
-    s->base.pass = pass;
-    s->base.find = find;
     s->base.commit = commit;
     s->base.rollback = rollback;
     s->base.close = close_it;

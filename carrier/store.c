@@ -44,16 +44,6 @@ int store_sessions(struct store *store, const char *const *names, size_t count, 
     return count > 0 ? store->sessions(store, names, count, take, given) : 0;
 }
 
-int store_standing(struct store *store, unsigned shard, store_take *take, void *given)
-{
-    return store->standing(store, shard, take, given);
-}
-
-int store_passed(struct store *store, unsigned shard, store_note *take, void *given)
-{
-    return store->passed(store, shard, take, given);
-}
-
 int store_begin(struct store *store, unsigned shard, const struct reached *from,
                 const struct reached *to)
 {
@@ -64,16 +54,6 @@ int store_advance(struct store *store, const char *session, const struct demand 
                   const struct demand *to)
 {
     return store->advance(store, session, from, to);
-}
-
-int store_pass(struct store *store, unsigned shard, const char *session, uint64_t offset)
-{
-    return store->pass(store, shard, session, offset);
-}
-
-int store_find(struct store *store, unsigned shard, const char *session)
-{
-    return store->find(store, shard, session);
 }
 
 int store_commit(struct store *store)

@@ -5,10 +5,8 @@
  * stored, another receiver has been at work, and nothing of the transaction takes effect: so it
  * doesn't matter how many receivers believe that a shard is theirs.
  *
- * A receiver that begins reads how far the shard was read FIRST, and the sessions AFTER it. Then
- * each session is at least as far on as the offset. In the other order another receiver may pass
- * frames by between the two reads, for a reason of its own, and this one would go on after them,
- * and never learn of it. */
+ * What a frame is taken for, and what a session asks for with its receipts, is krb_engine's
+ * (shard.h). */
 #ifndef STORE_H
 #define STORE_H
 
@@ -25,12 +23,13 @@ struct store;
  * All zeros: nothing was read. */
 struct reached { uint64_t incarnation, offset; };
 
-/* What a frame that isn't settled is stored as: with libkrbrelay's answer, or 0 if it had no line. */
+/* What a frame that was refused for a reason that may pass is stored as: with libkrbrelay's answer. */
 #define missed_by(answer) (KRBRELAY_MISSED_UNSETTLED + ((uint32_t)(answer) << 8))
-#define missed_kind(stored) ((stored) & 0xff)
 
-/* A session: what it demands next, whether its close was accepted, its place (krbrelay_place), and the
- * history of its frames that took effect, which isn't known of a session that an older version stored. */
+/* A session: what it demands next, whether its close was accepted, and the history of its frames that took
+ * effect, which isn't known of a session that an older version stored. For who looks, and for a receiver of
+ * the version before, which reads again from there: the offset of its last frame that took effect, and what
+ * it misses since. Nothing here is decided by these two. */
 struct demand {
     uint64_t next;
     uint32_t closed;
@@ -54,15 +53,8 @@ typedef int store_take(void *given, const char *session, const struct demand *de
 int store_sessions(struct store *store, const char *const *names, size_t count, store_take *take,
                    void *given);
 
-/* The same of each session that is stored as one of the shard and misses something. */
-int store_standing(struct store *store, unsigned shard, store_take *take, void *given);
-
-/* The same of each name that is noted as passed by in the shard (store_pass), with the offset. */
-typedef int store_note(void *given, const char *session, uint64_t offset);
-int store_passed(struct store *store, unsigned shard, store_note *take, void *given);
-
 /* Begins a transaction that moves the shard. If that is from one list to another, the places of all
- * its sessions become 0, none of them misses anything, and nothing is noted as passed by. */
+ * its sessions become 0, and none of them misses anything. */
 int store_begin(struct store *store, unsigned shard, const struct reached *from,
                 const struct reached *to);
 
@@ -70,15 +62,6 @@ int store_begin(struct store *store, unsigned shard, const struct reached *from,
  * missed something at its number. */
 int store_advance(struct store *store, const char *session, const struct demand *from,
                   const struct demand *to);
-
-/* Notes that the frame at this offset was passed by, since its receiver doesn't know a session of
- * this name in the shard, unless one is noted. Of a shard STORE_NOTED names are noted, and what is
- * more under the name "". */
-enum { STORE_NOTED = 1000 };
-int store_pass(struct store *store, unsigned shard, const char *session, uint64_t offset);
-
-/* Ends the note. */
-int store_find(struct store *store, unsigned shard, const char *session);
 
 /* Ends it: 0 if all of it took effect, 1 if something stood elsewhere, and -1 after a fault.
  * After 1 nothing took effect; after -1 it isn't known whether it did: all is to be read again.
@@ -123,12 +106,8 @@ enum { STORE_COLUMNS = 16 }; /* the most of one row */
 struct store {
     int (*reached)(struct store *, unsigned, struct reached *);
     int (*sessions)(struct store *, const char *const *, size_t, store_take *, void *);
-    int (*standing)(struct store *, unsigned, store_take *, void *);
-    int (*passed)(struct store *, unsigned, store_note *, void *);
     int (*begin)(struct store *, unsigned, const struct reached *, const struct reached *);
     int (*advance)(struct store *, const char *, const struct demand *, const struct demand *);
-    int (*pass)(struct store *, unsigned, const char *, uint64_t);
-    int (*find)(struct store *, unsigned, const char *);
     int (*commit)(struct store *);
     void (*rollback)(struct store *);
     void (*close)(struct store *);

@@ -104,13 +104,27 @@ static uint64_t ask(struct tickets *t, uint64_t *pause)
     return end > now + 2 * SHORTEST ? (end - now) / 2 : SHORTEST;
 }
 
+/* Whether there was a ticket that has ended, as after a sleep, or where the clock was set. */
+static int has_ended(struct tickets *t)
+{
+    int answer;
+    take_lock(&t->lock);
+    answer = t->creds != NULL && end_of(t->creds) <= seconds_now();
+    give_lock(&t->lock);
+    return answer;
+}
+
 static void *work(void *given)
 {
     struct tickets *t = given;
-    uint64_t pause = SHORTEST, next = 0;
+    uint64_t pause = SHORTEST, next = 0, asked = 0;
     while (!is_left(t)) {
-        if (nanoseconds() >= next)
-            next = nanoseconds() + ask(t, &pause) * UINT64_C(1000000000);
+        uint64_t now = nanoseconds();
+        int is_due = now >= next || (has_ended(t) && now - asked >= SHORTEST * UINT64_C(1000000000));
+        if (is_due) {
+            asked = now;
+            next = ask(t, &pause) * UINT64_C(1000000000) + nanoseconds();
+        }
         pause_milliseconds(LOOK);
     }
     return NULL;

@@ -26,6 +26,17 @@ static void fill(uint8_t *frame, unsigned shard, unsigned i)
         frame[at] = (uint8_t)(shard + i * 7 + at);
 }
 
+/* Answers come with confirmations. */
+static void await_shard(struct carrier *c, unsigned shard)
+{
+    static struct confirmed list[1];
+    uint64_t made = 0;
+    int tries;
+    for (tries = 0; tries < PATIENCE && carrier_make(c, shard, &made) != 0; tries++)
+        check(carrier_confirmed(c, list, 1, 100) == 0, "nothing is confirmed that wasn't published");
+    check(made > 0, "a shard is made");
+}
+
 static void publish_all(struct carrier *c)
 {
     uint8_t frame[1500];
@@ -87,62 +98,13 @@ static void read_from(struct carrier *reader, unsigned i, uint64_t offset)
     check(carrier_fetch(reader, list, 64, 100) == 0, "and no more");
 }
 
-/* The frames of a session from one on: the next one, how many were passed, and after how many to end. */
-struct passed { const char *name; unsigned shard, next, count, most; };
-
-static unsigned next_of(const struct passed *it, unsigned i)
-{
-    while (i < FRAMES && strcmp(session_of(i), it->name) != 0)
-        i += 2;
-    return i;
-}
-
-static int pass(void *given, const struct carried *frame)
-{
-    struct passed *it = given;
-    check(it->next < FRAMES, "no frame more");
-    check_fetched(frame, it->shard, it->next);
-    it->next = next_of(it, it->next + 2);
-    return ++it->count == it->most ? 7 : 0;
-}
-
-/* All frames of a session after frame i of its shard: all to the end, or as many as are asked for. */
-static void check_since(struct carrier *c, unsigned shard, const char *name, unsigned i)
-{
-    struct passed all = { name, shard, 0, 0, 0 }, one = { name, shard, 0, 0, 1 };
-    int is_whole = 0;
-    all.next = one.next = next_of(&all, i + 2);
-    check(carrier_since(c, shard, name, offsets[i], pass, &all, &is_whole) == 0, "frames since");
-    check(all.next >= FRAMES && is_whole, "all of them are passed, and none is gone");
-    if (all.count > 0)
-        check(carrier_since(c, shard, name, offsets[i], pass, &one, &is_whole) == 7 && one.count == 1,
-              "what was answered ends it");
-}
-
-static void check_all_since(struct carrier *c)
-{
-    static const char *const names[] = { "tom-7", "ann_1" };
-    struct passed none = { "nobody", SHARD, FRAMES, 0, 0 };
-    unsigned shard, name;
-    int is_whole = 0;
-    for (shard = SHARD; shard < SHARD + 2; shard++)
-        for (name = 0; name < 2; name++) {
-            check_since(c, shard, names[name], shard - SHARD);
-            check_since(c, shard, names[name], (FRAMES / 4) * 2 + shard - SHARD);
-            check_since(c, shard, names[name], FRAMES - 4 + shard - SHARD);
-            check_since(c, shard, names[name], FRAMES - 2 + shard - SHARD);
-        }
-    check(carrier_since(c, SHARD, "nobody", 0, pass, &none, &is_whole) == 0, "no frames");
-    check(carrier_since(c, SHARD + 2, "tom-7", 0, pass, &none, &is_whole) == 0 && is_whole,
-          "of a shard that isn't there");
-}
-
 /* Each reader of a shard gets the same incarnation, and nothing stands after the end. */
 static void check_shards(struct carrier *c, struct carrier *reader)
 {
-    uint64_t made = 0, asked = 0, behind = 1;
+    uint64_t made = 0, asked = 0, behind = 1, end = 0;
     check(carrier_make(c, SHARD, &made) == 0 && made > 0, "it is made");
-    check(carrier_incarnation(reader, SHARD, &asked) == 0 && asked == made, "its incarnation");
+    check(carrier_incarnation(reader, SHARD, &asked, &end) == 0 && asked == made, "its incarnation");
+    check(end == offsets[FRAMES - 2], "its last offset");
     read_from(reader, 2, offsets[0]);
     check(carrier_behind(reader, &behind) == 0 && behind == 0, "nothing stands after the end");
 }
@@ -157,6 +119,8 @@ int main(int count, char **words)
     c = carrier_open(&options);
     reader = carrier_open(&options);
     check(c != NULL && reader != NULL, "open");
+    await_shard(c, SHARD);
+    await_shard(c, SHARD + 1);
     publish_all(c);
     await_confirmed(c);
     for (i = 2; i < FRAMES; i++)
@@ -165,7 +129,6 @@ int main(int count, char **words)
     read_from(reader, 1, 0);
     for (i = 101; i + 2 < FRAMES; i += 101)
         read_from(reader, i + 2, offsets[i]);
-    check_all_since(c);
     check_shards(c, reader);
     carrier_close(c);
     carrier_close(reader);

@@ -127,7 +127,7 @@ class Processes:
     def words(self, kind, place):
         if kind == "sender":
             return ["--sessions", f"{self.folder}/sessions{place}", "--outbox",
-                    f"{self.folder}/outbox{place}.db", "--retry", "500", "--patience", "2", "--batch",
+                    f"{self.folder}/outbox{place}.db", "--batch",
                     str(self.given.batch if place % 2 else 1)]
         count = self.given.receivers
         mine = [str(it) for it in range(self.given.shards)

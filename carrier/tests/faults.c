@@ -3,8 +3,7 @@
  * sqlite_carrier_open (--wrap).
  *
  * CARRIER_FAULTS is one number: so many of 1,000 frames are lost, as many stored twice, and so
- * many confirmations lost. With RECEIPTS_UNANSWERED the question for a last receipt is waited for, so many
- * milliseconds, in vain. CLOCK_OFFSET are seconds by which the clock is ahead. The TAKEN_AHEAD'th frame that
+ * many confirmations lost. CLOCK_OFFSET are seconds by which the clock is ahead. The TAKEN_AHEAD'th frame that
  * a receiver takes meets a clock that is twelve days ahead. So many of the first calls of
  * krbrelay_opener_open as OPENS_WITHOUT_MEMORY says have no memory: those of messages that are refused. */
 #include "carrier.h"
@@ -112,20 +111,14 @@ static int confirmed(struct carrier *base, struct confirmed *list, size_t room, 
     return count < 0 ? count : kept;
 }
 
-static int incarnation(struct carrier *base, unsigned shard, uint64_t *incarnation)
+static int incarnation(struct carrier *base, unsigned shard, uint64_t *incarnation, uint64_t *end)
 {
-    return carrier_incarnation(((struct faulty *)base)->real, shard, incarnation);
+    return carrier_incarnation(((struct faulty *)base)->real, shard, incarnation, end);
 }
 
 static int make(struct carrier *base, unsigned shard, uint64_t *incarnation)
 {
     return carrier_make(((struct faulty *)base)->real, shard, incarnation);
-}
-
-static int since(struct carrier *base, unsigned shard, const char *session, uint64_t after,
-                 carrier_take *take, void *given, int *is_whole)
-{
-    return carrier_since(((struct faulty *)base)->real, shard, session, after, take, given, is_whole);
 }
 
 static void seek(struct carrier *base, unsigned shard, uint64_t offset)
@@ -160,16 +153,6 @@ static int receipts(struct carrier *base, carrier_receipt *take, void *given)
     return carrier_receipts(((struct faulty *)base)->real, take, given);
 }
 
-static int last_receipt(struct carrier *base, unsigned shard, const char *session,
-                        carrier_receipt *take, void *given)
-{
-    const char *unanswered = getenv("RECEIPTS_UNANSWERED");
-    if (unanswered == NULL)
-        return carrier_last_receipt(((struct faulty *)base)->real, shard, session, take, given);
-    pause_milliseconds((unsigned)atoi(unanswered));
-    return -1;
-}
-
 static void close_it(struct carrier *base)
 {
     carrier_close(((struct faulty *)base)->real);
@@ -181,18 +164,16 @@ struct carrier *__wrap_sqlite_carrier_open(const char *path)
     struct carrier *real = __real_sqlite_carrier_open(path);
     const char *faults = getenv("CARRIER_FAULTS");
     struct faulty *c = calloc(1, sizeof *c);
-    int is_faulty = faults != NULL || getenv("RECEIPTS_UNANSWERED") != NULL;
-    if (real == NULL || c == NULL || !is_faulty) {
+    if (real == NULL || c == NULL || faults == NULL) {
         free(c);
         return real;
     }
-    c->base = (struct carrier){ .incarnation = incarnation, .make = make, .since = since,
-                                .seek = seek, .publish = publish, .confirmed = confirmed,
+    c->base = (struct carrier){ .incarnation = incarnation, .make = make, .seek = seek,
+                                .publish = publish, .confirmed = confirmed,
                                 .fetch = fetch, .behind = behind, .acknowledge = acknowledge,
-                                .receipts = receipts, .last_receipt = last_receipt,
-                                .close = close_it };
+                                .receipts = receipts, .close = close_it };
     c->real = real;
-    c->faults = faults != NULL ? atol(faults) : 0;
+    c->faults = atol(faults);
     srand((unsigned)(getpid() + time(NULL)));
     return &c->base;
 }

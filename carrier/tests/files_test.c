@@ -4,6 +4,7 @@
 #include "check.h"
 #include "left.h"
 #include "private.h"
+#include "receipts.h"
 #include "sessions.h"
 
 #include <string.h>
@@ -88,11 +89,38 @@ static void test_keys(void)
     check(!is_taken(1, 1, 3, 4) && !is_taken(1, 2, 3, 3), "a session's two keys differ");
 }
 
+/* A session of the file without a key of the way back, whose key has only this byte. */
+static struct session without_back(int32_t etype, uint8_t byte)
+{
+    struct session it = { .etype = etype, .key_len = etype == 17 ? 16 : 32 };
+    memset(it.key, byte, it.key_len);
+    check(receipt_key(&it) == 0 && it.has_back, "a key of the way back follows from a session's key");
+    return it;
+}
+
+/* It is the same at both ends, no other session's, and none that it is made of; one that a line has stays. */
+static void test_key_of_the_way_back(void)
+{
+    static const uint8_t zeros[32];
+    int32_t etype;
+    for (etype = 17; etype <= 18; etype++) {
+        struct session one = without_back(etype, 1), same = without_back(etype, 1), other = without_back(etype, 2);
+        struct session has = { .etype = etype, .key_len = one.key_len, .has_back = 1, .back = { 7 } };
+        check(memcmp(one.back, same.back, one.key_len) == 0, "it is the same at both ends");
+        check(memcmp(one.back, other.back, one.key_len) != 0, "another session has another one");
+        check(memcmp(one.back, one.key, one.key_len) != 0, "it isn't the session's key");
+        check(memcmp(one.back, zeros, one.key_len) != 0 && memcmp(one.back + one.key_len - 4, zeros, 4) != 0
+              && memcmp(one.back, one.back + 12, 4) != 0, "all of it is filled, of different parts");
+        check(receipt_key(&has) == 0 && has.back[0] == 7 && has.back[1] == 0, "one that a line has stays");
+    }
+}
+
 int main(int count, char **words)
 {
     check(count == 2, "files_test FOLDER");
     snprintf(path, sizeof path, "%s/file", words[1]);
     test_modes();
+    test_key_of_the_way_back();
     test_names();
     test_keys();
     puts("passed");

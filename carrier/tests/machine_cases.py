@@ -178,7 +178,7 @@ def stream_of(world, shard):
 
 
 def frame_deleted(world):
-    """One that was confirmed and not read. Its session stands, and evidence.py has to show why."""
+    """One that was confirmed and not read: its sender sends it again."""
     for receiver in RECEIVERS:
         world.stop(receiver)
     time.sleep(2)
@@ -475,8 +475,7 @@ CASES = (
     Case(one_replica, "one replica; a node is away for 25 s, senders are started again", gap=40,
          made={"replicas": 1, "rate": 240, "seconds": 32}),
     Case(ends_stopped, "a sender, then one receiver and then the other are stopped for 3 s"),
-    Case(frame_deleted, "a frame that wasn't read is deleted from its stream", 20,
-         loses="the test deletes it", stand=1),
+    Case(frame_deleted, "a frame that wasn't read is deleted from its stream", 30),
     Case(told_to_end, "SIGTERM to a sender and a receiver while nodes, then the database, are cut off",
          gap=25, made={"seconds": 18}),
     Case(receiver_lost, "a receiver's machine is lost in a transaction; another one is started",

@@ -42,7 +42,7 @@ FIRST = 1                           # the first number of each session
 STEP = 0.1                          # seconds between insertions
 LOOK = 0.3                          # seconds between looks at the effects
 IMAGE = 400                         # megabytes
-AGAIN = 3                           # seconds after which what has no receipt is published again
+
 METRICS = 9464                      # the port at which a program shows its numbers
 # Prints what the program at a port of the loopback answers: the status and the text.
 ASK = """
@@ -406,8 +406,7 @@ class World:
         """With its own outbox and sessions, or those of another machine."""
         self.spawn(name, *self.conditioned(name), f"{self.programs}/sender", "--sessions",
                    self.sessions_of(sessions_of or name), "--outbox", outbox or self.outbox(name),
-                   "--carrier", self.where, "--replicas", str(self.options.replicas), "--patience",
-                   str(AGAIN), "--metrics", f"127.0.0.1:{METRICS}", is_tended=True)
+                   "--carrier", self.where, "--replicas", str(self.options.replicas), "--metrics", f"127.0.0.1:{METRICS}", is_tended=True)
 
     def start_receiver(self, name):
         every = "auto" if self.options.is_shared else f"0-{self.options.shards - 1}"

@@ -5,101 +5,71 @@ import shutil
 
 # The case of repro.py that has to find it; the others are for chaos.
 CASES = {
-    "numbers before the offset": "two_reads",
-    "what is passed by isn't noted": "session_later",
-    "places stay those of another list": "carrier_replaced",
+    "receipts ask for nothing": "unstable_offsets",
+    "what is asked for doesn't leave": "unstable_end",
+    "nothing is probed": "session_later",
     "frames go once they are carried": "receipts_before_reading",
     "receipts aren't sealed again": "receipts_lost",
     "receipts of other frames count": "copied_with_receipts",
-    "frames leave before they are looked at": "restored_with_its_frames",
-    "no memory is nobody's frame": "no_memory_at_a_refusal",
+    "receipts from before aren't read": "restored_and_receipted",
+    "later texts are taken first": "texts_in_turn",
 }
 
 # What has to be said of each: that it fails for another reason isn't enough.
 FOUND = {
-    "numbers before the offset": "delivered {'ann': 5} of {'ann': 10}",
-    "what is passed by isn't noted": "delivered {'ann': 100} of {'ann': 100, 'tom': 100}",
-    "places stay those of another list": "delivered {'ann': 5000} of {'ann': 5010}",
+    "receipts ask for nothing": "delivered {'ann': 3} of {'ann': 10}",
+    "what is asked for doesn't leave": "delivered {'ann': 1} of {'ann': 10}",
+    "nothing is probed": "delivered {'ann': 100} of {'ann': 100, 'tom': 100}",
     "frames go once they are carried": "delivered {} of {'ann': 300}",
     "receipts aren't sealed again": "the outbox keeps 100 frames",
     "receipts of other frames count": "the copy keeps (0, 0) frames and texts",
-    "frames leave before they are looked at": "0 texts wait",
-    "no memory is nobody's frame": "delivered {'ann': 2, ",
-    "confirmations counted singly": "not all is closed, though all counts as carried",
+    "receipts from before aren't read": "0 texts wait",
+    "later texts are taken first": "of {'ann': 3300}",
     "no compare-and-set": "doubled",
     "deduplication on": "not all is carried",
 }
 EDITS = {
-    "confirmations counted singly": ("progress.c", """\
-    if (krbrelay_progress_confirm(&after, number, offset, &counts) != KRBRELAY_OK || !counts)
-        return 0;
-""", """\
-    counts = number >= it->carried && number < it->next;
-    if (!counts)
-        return 0;
-    after.carried = number + 1;
-    after.at = offset;
-    after.sent = after.sent < after.carried ? after.carried : after.sent;
-"""),
     "no compare-and-set": ("sqlite_store.c", """\
     s->is_fenced |= sqlite3_changes(s->db) != 1;
 """, """\
     s->is_fenced = 0;
 """),
-    "numbers before the offset": ("shard_load.c", """\
-    if (store_reached(s->store, s->number, &s->stored) != 0)
-        return -1;
-    s->now = s->stored;
-    if (s->kerberos != NULL && shard_find_standing(s) != 0)
-        return -1;
-    if (store_standing(s->store, s->number, note_standing, s) != 0)
-        return -1;
+    "receipts ask for nothing": ("shard_receipts.c", """\
+                               .asks = due->asks };
 """, """\
-    if (store_standing(s->store, s->number, note_standing, s) != 0)
-        return -1;
-    if (store_reached(s->store, s->number, &s->stored) != 0)
-        return -1;
-    s->now = s->stored;
+                               .asks = KRBRELAY_ASKS_NOTHING };
 """),
-    "what is passed by isn't noted": ("shard.c", """\
-    return may_be ? store_pass(s->store, s->number, it->session, it->offset) : 0;
+    "what is asked for doesn't leave": ("sender_receipts.c", """\
+    said.asks = receipt.asks;
 """, """\
-    return 0;
+    said.asks = KRBRELAY_ASKS_NOTHING;
 """),
-    "places stay those of another list": ("sqlite_store.c", """\
-    return store_is_other(from, to) ? reset_sessions(s, shard) : 0;
-""", """\
-    return store_is_other(from, to) && from->offset == 0 ? reset_sessions(s, shard) : 0;
-"""),
+    "nothing is probed": ("publish.c", """\
+        publish_frames(s, it, command->number, 1);
+""", ""),
     "frames go once they are carried": ("sender.c", """\
-        now.done = it->of.has_back ? it->done : it->progress.carried;
-        now.history""", """\
-        now.done = it->progress.carried;
-        now.history"""),
-    "receipts of other frames count": ("sender_receipts.c", """\
-    if (own.is_known && receipt.history.is_known && !history_is(&own, &receipt.history)) {
+.carried = end->progress.carried, .done = end->done,
 """, """\
-    if (own.is_known && receipt.history.is_known && receipt.n > it->progress.next) {
+.carried = end->progress.carried, .done = end->progress.carried,
 """),
-    "frames leave before they are looked at": ("publish.c", """\
-    if (!it->is_checked)
-        texts_want""", """\
-    if (it->progress.next == 0)
-        texts_want"""),
-    "no memory is nobody's frame": ("shard.c", """\
-    if (opens < 0)
-        return -1; /* the frames are read again */
+    "receipts of other frames count": ("sender_receipts.c", """\
+    return own.is_known ? own : receipt->history;
 """, """\
-    if (opens < 0)
-        opens = 0;
+    return own.is_known ? receipt->history : own;
+"""),
+    "receipts from before aren't read": ("sender.c", """\
+    receipts_hear(s); /* before anything is sealed */
+""", ""),
+    "later texts are taken first": ("texts.c", """\
+    if ((*it)->has_texts || is_left(*it, text))
+""", """\
+    if (is_left(*it, text))
 """),
     "receipts aren't sealed again": ("shard.c", """\
-    s->counts.repeats++;
-    shard_owe(s, of);
-""", """\
-    s->counts.repeats++;
-    (void)of;
-"""),
+        if (it->end.owed != 0)
+            shard_owe""", """\
+        if (it->end.owed > KRBRELAY_ASKS_NOTHING)
+            shard_owe"""),
     "deduplication on": ("nats_publisher.c", """\
     status = natsConnection_PublishRequest(c->connection, subject, reply, frame, (int)len);
 """, """\
@@ -143,12 +113,10 @@ TICKET_EDITS = {
     "a stream goes on without its key": ("sender_streams.c", """\
         stream->left = STREAM_LEFT; /* so that no later text of it is taken before this one */
 """, ""),
-    "no session waits for the one before": ("shard_open.c", """\
-    if (of->opened == NULL || of->opened->before[0] == 0)
-        return 1;
+    "no session waits for the one before": ("shard.c", """\
+           && shard_judge(s, of) != KRBRELAY_JUDGED_BEGINS;
 """, """\
-    if (of->opened != NULL)
-        return 1;
+           && shard_judge(s, of) > KRBRELAY_JUDGED_FORKED;
 """),
 }
 

@@ -66,18 +66,23 @@ static enum seal_answer seal_waiting(struct outbox *outbox, struct sending *send
     return answer;
 }
 
-/* The same, committed. */
+/* The same, committed if all could be sealed. */
 static enum seal_answer seal_all(struct outbox *outbox, struct sending *sending, unsigned together)
 {
     enum seal_answer answer = seal_waiting(outbox, sending, together);
-    check(outbox_commit(outbox) == 0, "it is committed");
+    if (answer == SEAL_OK)
+        check(outbox_commit(outbox) == 0, "it is committed");
+    else
+        outbox_rollback(outbox);
     return answer;
 }
 
+static const struct history of_none = { .is_known = 1 };
+
 static struct sending sending_of(struct session of)
 {
-    struct sending it = { .of = of, .sealed = of.first };
-    check(progress_begin(&it.progress, of.first, of.first, 0) == 0, "a progress begins");
+    struct sending it = { .of = of, .sealed = of.first, .history = { .is_known = 1 } };
+    check(krbrelay_sending_load(&it.end, of.first, of.first, 0, of.first, 0, 0) == KRBRELAY_OK, "its end begins");
     return it;
 }
 
@@ -198,16 +203,16 @@ static void test_last_number(struct outbox *outbox)
     struct sending sending = sending_of(of);
     put(outbox, of.name, bytes, 1);
     check(seal_all(outbox, &sending, 1) == SEAL_OK, "the number before the last is a text's");
-    check(sqlite3_exec(outbox->db, "DELETE FROM text", NULL, NULL, NULL) == SQLITE_OK, "it is taken");
+    check(sqlite3_exec(outbox->db, "DELETE FROM text; DELETE FROM sealed", NULL, NULL, NULL) == SQLITE_OK, "it is taken");
     put(outbox, of.name, bytes, 1);
     check(seal_all(outbox, &sending, 1) == SEAL_STOP, "no text has the last number");
-    seal_reset(&sending);
+    seal_reset(&sending, &of_none);
     sending.sealed = UINT32_MAX;
     put(outbox, of.name, bytes, 1);
     check(seal_all(outbox, &sending, 2) == SEAL_STOP, "nor has a batch");
-    seal_reset(&sending);
+    seal_reset(&sending, &of_none);
     sending.sealed = UINT32_MAX;
-    check(sqlite3_exec(outbox->db, "DELETE FROM text", NULL, NULL, NULL) == SQLITE_OK, "it is dropped");
+    check(sqlite3_exec(outbox->db, "DELETE FROM text; DELETE FROM sealed", NULL, NULL, NULL) == SQLITE_OK, "it is dropped");
     put(outbox, of.name, NULL, 0);
     check(seal_all(outbox, &sending, 1) == SEAL_OK && sending.sealed == UINT64_C(1) << 32, "the close has it");
     seal_free(&sending);
@@ -226,7 +231,7 @@ static void test_taken_back(struct outbox *outbox)
     put(outbox, of.name, bytes, 5);
     check(seal_waiting(outbox, &sending, 1) == SEAL_OK && sending.sealed == 8, "a text is sealed");
     outbox_rollback(outbox);
-    seal_reset(&sending);
+    seal_reset(&sending, &of_none);
     check(seal_all(outbox, &sending, 1) == SEAL_OK && sending.sealed == 8, "it is sealed again");
     check(krbrelay_receiver_new(&receiver, of.etype, of.key, of.key_len, &expect, 7, 0) == KRBRELAY_OK,
           "a receiver is made");
@@ -239,16 +244,14 @@ static void test_taken_back(struct outbox *outbox)
     seal_free(&sending);
 }
 
-/* Of a session with receipts each text is noted with its number and its place in the record. */
+/* Each text is noted with its number and its place in the record. */
 static void test_noted(struct outbox *outbox)
 {
     static const int numbers[] = { 4, 4, 4, 5 }, parts[] = { 0, 1, 2, 0 };
     struct session of = session_of("noted", KRBRELAY_PRIV, 4);
-    struct sending sending;
+    struct sending sending = sending_of(of);
     sqlite3_stmt *select = NULL;
     int i;
-    of.has_back = 1;
-    sending = sending_of(of);
     for (i = 0; i < 3; i++)
         put(outbox, of.name, bytes, 5);
     put(outbox, of.name, NULL, 0);
@@ -349,28 +352,48 @@ static void test_bound(struct outbox *outbox)
     check(insertion(outbox, "'text'")[0] == 0, "then any number may wait");
 }
 
-/* Frames are dropped below the number that is done, and a history goes over frames without a gap. */
+/* A history, each of whose bytes is this one. */
+static struct history history_of(int byte)
+{
+    struct history it = { .is_known = 1 };
+    memset(it.bytes, byte, sizeof it.bytes);
+    return it;
+}
+
+/* Frames are dropped below the number that is done. The history up to a frame stands beside it; where it doesn't,
+ * as of a frame of an older version, it goes on from that of what is done over frames without a gap. */
 static void test_done(struct outbox *outbox)
 {
+    const struct history done = history_of(1), beside = history_of(2), unknown = { .is_known = 0 };
+    struct history goes_on = done;
     struct session of = session_of("done", KRBRELAY_SAFE, 1);
-    struct history whole = { .is_known = 1 }, gap = { .is_known = 1 };
     struct outbox_progress it;
+    struct history found_history;
     const uint8_t *found = NULL;
     uint64_t number = 0;
     size_t len = 0;
-    check(outbox_begin(outbox) == OUTBOX_OK && outbox_set_next(outbox, &of, 1, 5) == 0
-          && outbox_add_frame(outbox, of.name, 1, bytes, 3) == 0
-          && outbox_add_frame(outbox, of.name, 2, bytes, 3) == 0
-          && outbox_add_frame(outbox, of.name, 4, bytes, 3) == 0, "frames are stored");
+    check(outbox_begin(outbox) == OUTBOX_OK && outbox_set_next(outbox, &of, 1, 6) == 0
+          && outbox_add_frame(outbox, of.name, 1, bytes, 3, &unknown) == 0
+          && outbox_add_frame(outbox, of.name, 2, bytes, 3, &unknown) == 0
+          && outbox_add_frame(outbox, of.name, 4, bytes, 3, &unknown) == 0
+          && outbox_add_frame(outbox, of.name, 5, bytes, 3, &beside) == 0, "frames are stored");
     check(outbox_load(outbox, &of, &it) == 0, "the outbox tells how far a session is");
     it.carried = it.done = 2;
     check(outbox_set_carried(outbox, of.name, &it) == 0, "the first frame is done");
     outbox_select_frames(outbox, of.name, 0, 10);
     check(outbox_next_frame(outbox, &number, &found, &len) == 1 && number == 2, "the next one is kept");
     outbox_end_frames(outbox);
-    outbox_add_history(outbox, of.name, 2, 3, &whole);
-    outbox_add_history(outbox, of.name, 2, 4, &gap);
-    check(whole.is_known && !gap.is_known, "a history that lacks a frame isn't known");
+    check(history_add(&goes_on, bytes, 3) == 0, "a frame is added to a history");
+    found_history = outbox_history(outbox, &of, 2, &done, 3);
+    check(history_is(&found_history, &goes_on), "it goes on over the frame");
+    found_history = outbox_history(outbox, &of, 2, &done, 2);
+    check(history_is(&found_history, &done), "nothing follows what is done");
+    found_history = outbox_history(outbox, &of, 2, &done, 6);
+    check(history_is(&found_history, &beside), "it stands beside its last frame");
+    check(!outbox_history(outbox, &of, 2, &done, 5).is_known, "one that lacks a frame isn't known");
+    check(!outbox_history(outbox, &of, 2, &unknown, 3).is_known, "nor one after an unknown one");
+    found_history = outbox_history(outbox, &of, 1, &unknown, 1);
+    check(history_is(&found_history, &of_none), "before the first frame it is that of none");
     outbox_rollback(outbox);
 }
 
@@ -398,15 +421,15 @@ int main(int count, char **words)
     snprintf(path, sizeof path, "%s/outbox.db", words[1]);
     check(outbox_open(&outbox, path) == 0, "an outbox is opened");
     test_texts(&outbox);
-    check(sqlite3_exec(outbox.db, "DELETE FROM text", NULL, NULL, NULL) == SQLITE_OK, "texts are taken");
+    check(sqlite3_exec(outbox.db, "DELETE FROM text; DELETE FROM sealed", NULL, NULL, NULL) == SQLITE_OK, "texts are taken");
     test_confounders(&outbox, TEXTS + 1);
-    check(sqlite3_exec(outbox.db, "DELETE FROM text", NULL, NULL, NULL) == SQLITE_OK, "texts are taken");
+    check(sqlite3_exec(outbox.db, "DELETE FROM text; DELETE FROM sealed", NULL, NULL, NULL) == SQLITE_OK, "texts are taken");
     test_last_number(&outbox);
-    check(sqlite3_exec(outbox.db, "DELETE FROM text", NULL, NULL, NULL) == SQLITE_OK, "texts are taken");
+    check(sqlite3_exec(outbox.db, "DELETE FROM text; DELETE FROM sealed", NULL, NULL, NULL) == SQLITE_OK, "texts are taken");
     test_taken_back(&outbox);
-    check(sqlite3_exec(outbox.db, "DELETE FROM text", NULL, NULL, NULL) == SQLITE_OK, "texts are taken");
+    check(sqlite3_exec(outbox.db, "DELETE FROM text; DELETE FROM sealed", NULL, NULL, NULL) == SQLITE_OK, "texts are taken");
     test_noted(&outbox);
-    check(sqlite3_exec(outbox.db, "DELETE FROM text", NULL, NULL, NULL) == SQLITE_OK, "texts are taken");
+    check(sqlite3_exec(outbox.db, "DELETE FROM text; DELETE FROM sealed", NULL, NULL, NULL) == SQLITE_OK, "texts are taken");
     test_nothing_left(&outbox);
     test_compare(&outbox);
     test_bound(&outbox);

@@ -1,5 +1,5 @@
-/* A receiver that pauses once, for STORE_PAUSE milliseconds, after the first call that asks the
- * store what it has. The linker puts these calls in the place of those of store.h (--wrap). */
+/* A receiver that pauses once, for STORE_PAUSE milliseconds, after the call that asks the store how far its shard
+ * was read. The linker puts this call in the place of that of store.h (--wrap). */
 #include "clock.h"
 #include "store.h"
 
@@ -7,8 +7,6 @@
 
 int __real_store_reached(struct store *store, unsigned shard, struct reached *reached);
 int __wrap_store_reached(struct store *store, unsigned shard, struct reached *reached);
-int __real_store_standing(struct store *store, unsigned shard, store_take *take, void *given);
-int __wrap_store_standing(struct store *store, unsigned shard, store_take *take, void *given);
 
 static void pause_once(void)
 {
@@ -21,13 +19,6 @@ static void pause_once(void)
 int __wrap_store_reached(struct store *store, unsigned shard, struct reached *reached)
 {
     int answer = __real_store_reached(store, shard, reached);
-    pause_once();
-    return answer;
-}
-
-int __wrap_store_standing(struct store *store, unsigned shard, store_take *take, void *given)
-{
-    int answer = __real_store_standing(store, shard, take, given);
     pause_once();
     return answer;
 }

@@ -121,7 +121,7 @@ static void work(uint64_t first, uint64_t end)
     uint64_t number, incarnation;
     check(outbox_open(&outbox, outbox_path) == 0 && store != NULL && carrier != NULL, "all are opened");
     check(carrier_make(carrier, SHARD, &incarnation) == 0, "there is a shard");
-    check(progress_begin(&sending.progress, first, first, 0) == 0, "a progress begins");
+    check(krbrelay_sending_load(&sending.end, first, first, 0, first, 0, 0) == KRBRELAY_OK, "its end begins");
     for (number = first; number < end; number++) {
         put_text(&outbox, number);
         check(seal_one(&outbox, &sending, frame) == number, "each has the next number");
@@ -219,9 +219,9 @@ static void find_carrier(void)
     const struct carrier_options options = { .where = carrier_path };
     struct carried list[TEXTS + 1];
     struct carrier *carrier = carrier_open(&options);
-    uint64_t incarnation = 0, i;
+    uint64_t incarnation = 0, end = 0, i;
     int count;
-    check(carrier != NULL && carrier_incarnation(carrier, SHARD, &incarnation) == 0, "the carrier opens");
+    check(carrier != NULL && carrier_incarnation(carrier, SHARD, &incarnation, &end) == 0, "the carrier opens");
     carrier_seek(carrier, SHARD, 0);
     count = carrier_fetch(carrier, list, TEXTS + 1, 0);
     check(count >= 0 && (uint64_t)count >= last_told(CONFIRMED), "what was confirmed is there");

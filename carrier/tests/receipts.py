@@ -12,7 +12,6 @@ from repro import Case, texts
 
 ANN = repro.ANN.rstrip("\n") + f" {'33' * 16}\n"
 TOM = repro.TOM.rstrip("\n") + f" {'55' * 32}\n"
-QUICK = ("--patience", "1", "--retry", "500")
 LOSSES = 3              # of the carrier, in one run
 
 
@@ -104,13 +103,13 @@ def receipts_before_reading(place):
 
 
 def receipts_frames_gone(place):
-    """Frames are deleted from the carrier below a sender that runs, three times."""
+    """All frames are deleted from the carrier below a sender that runs, and then what it probes with."""
     place.put(texts("ann", 0, 100))
-    sender = place.start("sender", *QUICK)
-    for turn in range(LOSSES):
-        place.require(place.wait(lambda: place.count("carrier", "carried") >= 100, 10), "no frames")
-        place.require(place.wait(lambda: place.ask(
-            "outbox", "SELECT 1 FROM session WHERE carried = next"), 5), "not carried")
+    sender = place.start("sender")
+    place.require(place.wait(lambda: place.ask(
+        "outbox", "SELECT 1 FROM session WHERE carried = next AND next = 101"), 10), "not carried")
+    for _ in range(2):
+        place.require(place.wait(lambda: place.count("carrier", "carried") >= 1, 15), "no frames")
         with sqlite3.connect(f"{place.folder}/carrier.db", timeout=10) as file:
             file.execute("DELETE FROM carried")
         file.close()
@@ -133,7 +132,7 @@ def receipts_lost(place):
         file.execute("DELETE FROM receipt")
     file.close()
     place.start("receiver")
-    place.start("sender", *QUICK)
+    place.start("sender")
     await_no_frames(place, 8)
     require_each_once(place)
 
@@ -217,7 +216,7 @@ def receipts_stream_deleted(place):
     """The stream of JetStream is deleted below a sender and a receiver, three times, and once that
     of the receipts."""
     place.put([])
-    place.start("sender", *QUICK)
+    place.start("sender")
     place.start("receiver")
     for turn in range(LOSSES):
         place.put(texts("ann", 500 * turn, 500 * (turn + 1)))
@@ -237,7 +236,7 @@ CASES = (
          {"ann": 3000, "tom": 3000}, 30, (ANN, TOM)),
     Case(receipts_before_reading, "the carrier's file is deleted before anything was read",
          {"ann": 300}, 10, (ANN,)),
-    Case(receipts_frames_gone, "all frames are deleted below a sender, three times", {"ann": 100}, 40,
+    Case(receipts_frames_gone, "all frames are deleted below a sender, and its probe", {"ann": 100}, 40,
          (ANN,)),
     Case(receipts_lost, "receipts are lost", {"ann": 100}, 20, (ANN,)),
     Case(receipts_forged, "receipts that aren't the session's", {"ann": 50, "tom": 50}, 20, (ANN, TOM)),

@@ -256,6 +256,18 @@ def poison_in_load(place):
     send_and_receive(place)
 
 
+def texts_in_turn(place):
+    """Texts are put in one by one while thousands of their session wait: none is taken before them."""
+    place.put(texts("ann", 0, 3000, 100))
+    place.start("sender")
+    place.start("receiver")
+    with sqlite3.connect(place.outbox, timeout=errors.LIMIT, isolation_level=None) as file:
+        for row in texts("ann", 3000, 3300, 100):
+            file.execute("INSERT INTO text (session, body) VALUES (?, ?)", row)
+    file.close()
+    place.await_delivered()
+
+
 def poison_numbers(place):
     place.put(texts("ann", 0, 20) + texts("tom", 0, 300) + close("tom"))
     send_and_receive(place)
@@ -291,9 +303,11 @@ def processor_time(pid):
 # ---- what a receiver refuses for a reason of its own
 
 def drain_and_receive(place, before, after=(), other=None, clock=0):
-    """All is sent. A receiver takes what it can as `before` says, then another to the end."""
+    """All is sent. A receiver takes what it can as `before` says, then another to the end: its sender sends again
+    what had no receipt."""
     place.run("sender", "--drain")
     place.run("receiver", *before, seconds=1.5, clock=clock, **other or {})
+    place.start("sender")
     place.start("receiver", *after)
     place.await_delivered()
 
@@ -308,12 +322,12 @@ def clock_beside(place):
     wrong = place.start("receiver", clock=2 * DAYS)
     time.sleep(0.5)
     place.put(texts("ann", 0, 50))
-    place.run("sender", "--drain")
-    place.wait(lambda: place.ask("store", "SELECT offset FROM shard") == [(50,)], 5)
+    place.start("sender")
+    place.require(place.wait(lambda: place.ask("store", "SELECT offset > 0 FROM shard") == [(1,)], 5),
+                  "nothing is read")
     place.start("receiver")
     place.put(texts("ann", 50, 100))
-    place.run("sender", "--drain")
-    time.sleep(1)
+    time.sleep(2)
     place.end(wrong)
     place.await_delivered()
 
@@ -380,6 +394,7 @@ def two_reads(place):
     place.start("receiver", pause=2500)
     time.sleep(0.5)
     place.run("receiver", seconds=1, sessions=f"{place.folder}/before")
+    place.start("sender")
     place.await_delivered()
 
 
@@ -389,22 +404,15 @@ def new_session(place):
     """A line is added below a sender and a receiver that run, which have passed its frames by."""
     place.put(texts("ann", 0, 5) + texts("tom", 0, 20))
     sender, receiver = place.start("sender"), place.start("receiver", sessions=place.other([ANN]))
-    place.wait(lambda: place.ask("store", "SELECT offset FROM shard") == [(25,)], 5)
-    require_passed(place, [("tom", 6)])
+    place.require(place.wait(lambda: loglines.has(place.log(receiver), "session_unknown", session="tom"), 5),
+                  "its frames aren't passed by")
     place.replace(f"{place.folder}/other", [ANN, TOM])
     place.await_delivered()
-    require_passed(place, [])
     place.replace(place.sessions, [ANN, TOM, ABE])
     place.replace(f"{place.folder}/other", [ANN, TOM, ABE])
     place.put(texts("abe", 0, 7))
     place.await_delivered({"ann": 5, "tom": 20, "abe": 7})
     place.require(sender.poll() is None and receiver.poll() is None, "a program has ended")
-
-
-def require_passed(place, wanted):
-    """The names that the store has noted as passed by, with their offsets."""
-    place.require(place.wait(lambda: place.ask("store", "SELECT session, at FROM passed") == wanted,
-                             3), f"passed: {place.ask('store', 'SELECT session, at FROM passed')}")
 
 
 def new_line_of_stopped(place):
@@ -445,7 +453,7 @@ def changed_key(place):
 
 
 def junk_names(place):
-    """Frames under 2,000 names that nobody has come before a session's; it costs no reading again."""
+    """Frames under 2,000 names that nobody has come before a session's: each is read once."""
     place.run("sender", "--drain")
     with sqlite3.connect(f"{place.folder}/carrier.db", timeout=errors.LIMIT) as file:
         file.executemany("INSERT INTO carried (shard, session, frame) VALUES (0, ?, ?)",
@@ -456,8 +464,9 @@ def junk_names(place):
     place.run("sender", "--drain")
     receiver = place.start("receiver")
     place.await_delivered()
-    place.require(place.count("store", "passed") == 1001, f"{place.count('store', 'passed')} notes")
     place.end(receiver)
+    place.require(loglines.has(place.log(receiver), "shard_ended", frames=5, repeats=0, refused=2002),
+                  place.log(receiver)[-300:])
     place.put(texts("ann", 5, 10))
     place.run("sender", "--drain")
     place.start("receiver")
@@ -499,11 +508,12 @@ def unstable_offsets(place):
     place.start("receiver")
     place.wait(lambda: place.ask("store", "SELECT offset FROM shard") == [(7,)], 5)
     rewrite(place, rows)
+    place.start("sender")
     place.await_delivered()
 
 
 def unstable_end(place):
-    """The same of the last frames: nothing comes early after them."""
+    """The same of the last frames: nothing comes early after them, until the sender probes."""
     place.put(texts("ann", 0, 10) + close("ann"))
     place.run("sender", "--drain")
     rows = place.ask("carrier", "SELECT offset, shard, session, frame FROM carried ORDER BY offset")
@@ -511,10 +521,10 @@ def unstable_end(place):
     receiver = place.start("receiver")
     place.wait(lambda: place.ask("store", "SELECT offset FROM shard") == [(11,)], 5)
     rewrite(place, rows)
+    sender = place.start("sender")
     place.await_delivered()
-    time.sleep(12)
-    place.end(receiver)
-    place.require(loglines.has(place.log(receiver), "shard_ended", again=1), "it was read again")
+    place.require(place.wait(lambda: not place.count("outbox", "frame"), 5), "the sender isn't told so")
+    place.require(receiver.poll() is None and sender.poll() is None, "a program has ended")
 
 
 def rewrite(place, rows):
@@ -532,7 +542,7 @@ def carrier_replaced(place):
     for path in glob.glob(f"{place.folder}/carrier.db*"):
         os.unlink(path)
     place.put(texts("ann", 5000, 5010))
-    status, _ = place.run("sender", "--drain", "--retry", "500", seconds=5)
+    status, _ = place.run("sender", "--drain", seconds=5)
     place.require(status == 0, f"sender --drain: status {status}")
     place.start("receiver")
     place.await_delivered()
@@ -542,7 +552,7 @@ def nats_stream_replaced(place):
     deliver(place, texts("ann", 0, 5000), {"ann": 5000})
     jetstream.request(place.nats.ports[0], "STREAM.DELETE.KRB_0")
     place.put(texts("ann", 5000, 5010))
-    status, _ = place.run("sender", "--drain", "--retry", "500", seconds=5)
+    status, _ = place.run("sender", "--drain", seconds=5)
     place.require(status == 0, f"sender --drain: status {status}")
     place.start("receiver")
     place.await_delivered()
@@ -554,7 +564,7 @@ def stream_regrown(place):
     jetstream.request(place.nats.ports[0], "STREAM.DELETE.KRB_0")
     for rows in (texts("abe", 0, 50), texts("ann", 100, 400)):
         place.put(rows)
-        place.run("sender", "--drain", "--retry", "500", seconds=5)
+        place.run("sender", "--drain", seconds=5)
     place.start("receiver")
     place.await_delivered()
 
@@ -581,7 +591,7 @@ def session_moved(place):
     deliver(place, texts("ann", 0, 100) + texts("tom", 0, 5), {"ann": 100, "tom": 5})
     place.write(place.sessions, [ANN.replace("ann 0", "ann 1"), TOM_1])
     place.put(texts("ann", 100, 110))
-    status, _ = place.run("sender", "--drain", "--retry", "500", seconds=3)
+    status, _ = place.run("sender", "--drain", seconds=3)
     place.require(status == 0, f"sender --drain: status {status}")
     place.start("receiver")
     place.await_delivered()
@@ -600,9 +610,11 @@ def gap(place):
 # ---- who may use the broker
 
 WORDS = {"sender": "word-of-the-sender", "receiver": "word-of-the-receiver"}
-MAY = {"sender": ("krb.>", "$JS.API.STREAM.INFO.>", "$JS.API.STREAM.CREATE.>",
-                  "$JS.API.STREAM.MSG.GET.>"),
-       "receiver": ("$JS.API.STREAM.INFO.>", "$JS.API.CONSUMER.>", "$JS.FC.>")}
+MAY = {"sender": ("krb.>", "$JS.API.STREAM.INFO.>", "$JS.API.STREAM.CREATE.>", "$JS.API.CONSUMER.*.KRB_RECEIPTS.>",
+                  "$JS.API.CONSUMER.*.KRB_RECEIPTS"),
+       "receiver": ("krbr.>", "$JS.API.STREAM.INFO.>", "$JS.API.STREAM.CREATE.KRB_RECEIPTS", "$JS.API.CONSUMER.>",
+                    "$JS.FC.>")}
+HEARS = {"sender": ("_INBOX.>", "krbr.>"), "receiver": ("_INBOX.>",)}
 
 
 def openssl(place, *words):
@@ -629,7 +641,7 @@ def start_secured(place):
     publish and no more. The options of each program."""
     make_certificates(place)
     users = ", ".join(
-        f'{{ user: {name}, password: "{WORDS[name]}", permissions: {{ subscribe: "_INBOX.>",'
+        f'{{ user: {name}, password: "{WORDS[name]}", permissions: {{ subscribe: {list(HEARS[name])},'
         f' publish: {{ allow: {list(MAY[name])} }} }} }}'.replace("'", '"') for name in WORDS)
     place.start_nats(f'tls {{ cert_file: "{place.folder}/node.pem", verify: true, timeout: 5,'
                      f' key_file: "{place.folder}/node.key", ca_file: "{place.folder}/ca.pem" }}\n'
@@ -651,9 +663,13 @@ def secured(place):
     place.write(f"{place.folder}/wrong.word", ["sender word-that-is-wrong\n"])
     place.write(f"{place.folder}/bad.word", ["sender\n"])
     place.put(texts("ann", 0, 200) + close("ann"), given=given["sender"])
-    place.start("sender", **given["sender"])
+    sender = place.start("sender", **given["sender"])
     place.start("receiver", **given["receiver"])
     place.await_delivered()
+    place.require(place.wait(lambda: not place.count("outbox", "frame"), 8), "no receipt came")
+    place.end(sender)
+    sender = place.start("sender", **given["sender"])     # which reads the receipts that are kept
+    place.require(place.wait(lambda: "the last receipts" in place.log(sender), 2) is False, place.log(sender)[-200:])
     code, lines = ask_status(place, "--store", place.store, "--carrier", place.carrier, *(
         word for option, value in given["sender"].items() if option != "tls-name"
         for word in (f"--{option}", value)))
@@ -778,27 +794,30 @@ def restore_outbox(place):
     for path in glob.glob(f"{place.outbox}*"):
         os.unlink(path)
     shutil.copy(f"{place.folder}/backup.db", place.outbox)
-    use_old_outbox(place, "outbox")
+    use_old_outbox(place, "outbox", 100)
 
 
 def lose_outbox(place):
     place.put(texts("ann", 0, 200))
     place.run("sender", "--drain")
-    use_old_outbox(place, "new")
+    use_old_outbox(place, "new", 0)
 
 
-def use_old_outbox(place, name):
-    """Its texts wait, and what left before is delivered; another session goes on."""
+def use_old_outbox(place, name, had):
+    """Its new texts aren't taken for delivered, nor the so many that it had sealed without a receipt; what left
+    before is delivered, and another session goes on."""
     outbox = f"{place.folder}/{name}.db"
+    receiver = place.start("receiver")
     place.put(texts("ann", 300, 320) + texts("tom", 0, 10), outbox)
-    status, told = place.run("sender", "--drain", outbox=outbox, seconds=5)
-    place.require(status == 4, f"sender --drain: status {status}")
-    place.require(loglines.has(told, "session_stopped", "older than what has left",
-                               session="ann"), told[-200:])
-    place.start("receiver")
+    sender = place.start("sender", outbox=outbox)
+    told = place.wait(lambda: loglines.has(place.log(sender), "session_stopped", "older than what has left",
+                                           session="ann"), 12)
+    place.require(told, place.log(sender)[-200:])
     place.await_delivered()
-    waiting = place.ask(name, "SELECT count(*) FROM text")
-    place.require(waiting == [(20,)], f"{waiting} texts wait")
+    waiting = place.ask(name, "SELECT (SELECT count(*) FROM text) + (SELECT count(*) FROM sealed"
+                              " WHERE session = 'ann')")
+    place.require(waiting == [(20 + had,)], f"{waiting} texts wait")
+    place.require(receiver.poll() is None and sender.poll() is None, "a program has ended")
 
 
 def numbers_end(place):
@@ -835,6 +854,47 @@ def old_files(place):
         file.close()
     place.put(texts("ann", 0, 5))
     send_and_receive(place)
+
+
+# What the version before had of an outbox and a store that this one has made: its columns, and its notes.
+BEFORE_OUTBOX = """
+DROP INDEX text_of;
+ALTER TABLE frame DROP COLUMN history;
+ALTER TABLE session DROP COLUMN stands;
+ALTER TABLE session DROP COLUMN stood;
+DELETE FROM frame WHERE session = 'tom';
+DELETE FROM sealed WHERE session = 'tom';
+UPDATE session SET done = carried, history = '' WHERE name = 'tom';
+"""
+BEFORE_STORE = """
+CREATE TABLE passed (shard INTEGER NOT NULL, session TEXT NOT NULL, at INTEGER NOT NULL,
+ PRIMARY KEY (shard, session)) WITHOUT ROWID;
+INSERT INTO passed VALUES (0, 'nobody', 1), (0, '', 3);
+UPDATE session SET missed = 1, since = 1 WHERE name = 'ann';
+UPDATE session SET history = '' WHERE name = 'tom';
+"""
+
+
+def version_before(place):
+    """Both ends take over what the version before left: frames without a receipt, of a session with a key of the
+    way back; and of one without, whose frames it deleted once they were carried."""
+    deliver(place, texts("ann", 0, 10) + texts("tom", 0, 10), {"ann": 10, "tom": 10})
+    place.put(texts("ann", 10, 20) + texts("tom", 10, 20))
+    place.run("sender", "--drain")
+    for name, sql in (("outbox", BEFORE_OUTBOX), ("store", BEFORE_STORE)):
+        file = sqlite3.connect(f"{place.folder}/{name}.db")
+        file.executescript(sql)
+        file.close()
+    place.put(texts("ann", 20, 30) + texts("tom", 20, 30))
+    sender = place.start("sender")
+    receiver = place.start("receiver")
+    place.await_delivered()
+    place.require(place.wait(lambda: not place.count("outbox", "frame"), 10), "frames have no receipt")
+    for name, is_known in (("ann", True), ("tom", False)):
+        rows = [place.ask(it, f"SELECT history FROM session WHERE name = '{name}'") for it in ("outbox", "store")]
+        place.require(rows[0] == rows[1] and (len(rows[0][0][0]) == 40) == is_known, f"history of {name}: {rows}")
+    place.require(not place.count("outbox", "stopped"), "a session is stopped")
+    place.require(sender.poll() is None and receiver.poll() is None, "a program has ended")
 
 
 # ---- one of many fails
@@ -936,7 +996,7 @@ def forged_confirmation(place):
     spy = jetstream.Connection(port)
     spy.subscribe("krb.0.*")
     place.put(texts("ann", 0, 5))
-    place.start("sender", "--retry", "300")
+    place.start("sender")
     inbox = spy.next()[0][3].rsplit(".", 1)[0]
     for number in range(1, 6):
         spy.publish(f"{inbox}.{number}", b'{"stream":"KRB_0","seq":%d}' % FORGED)
@@ -1016,7 +1076,7 @@ def numbers_of_words(place):
             ("receiver", "skew", "abc"), ("receiver", "skew", "4294967296"),
             ("receiver", "batch", "0"), ("receiver", "batch", "5000"),
             ("receiver", "replicas", "-1"), ("sender", "replicas", "6"),
-            ("sender", "batch", "1001"), ("sender", "retry", "2s"), ("sender", "retry", ""),
+            ("sender", "batch", "1001"), ("sender", "life", "2s"), ("sender", "life", ""),
             ("sender", "replicas", " 1")):
         status, told = place.run(program, f"--{option}", value, seconds=2)
         place.require(status == 2 and f"--{option}" in told,
@@ -1145,27 +1205,45 @@ def status(place):
     """Of a session that is closed, one that stands since a key is wrong, and one without a line."""
     place.put(texts("ann", 0, 5) + close("ann") + texts("tom", 0, 5) + texts("nobody", 0, 2))
     place.write(f"{place.folder}/wrong", [ANN, TOM.replace("22" * 32, "33" * 32)])
-    place.run("sender", "--drain")
+    place.start("sender")
     receiver = place.start("receiver", sessions=f"{place.folder}/wrong")
     place.await_delivered()
-    place.wait(lambda: place.ask("store", "SELECT offset FROM shard") == [(11,)], 5)
     where = ("--outbox", place.outbox, "--store", place.store, "--carrier", place.carrier)
+    place.require(place.wait(lambda: "no receipt came" in " ".join(ask_status(place, *where)[1]["tom"]), 25),
+                  "it isn't said that tom has no receipt")
     code, lines = ask_status(place, *where)
     told = {name: line[1:9] for name, line in lines.items()}
     place.require(code == 0 and lines["ann"][8:] == ["closed"], f"{code}: {lines}")
     place.require(told["ann"] == ["0", "7", "7", "7", "0", "0", "7", "closed"], f"ann: {told['ann']}")
-    place.require(told["tom"] == ["0", "6", "6", "6", "0", "0", "1", "stands"], f"tom: {told['tom']}")
-    place.require("integrity check fails" in " ".join(lines["tom"]), f"tom: {lines['tom']}")
+    place.require(told["tom"] == ["0", "6", "6", "1", "5", "0", "-", "stands"], f"tom: {told['tom']}")
     place.require(told["nobody"][5:] == ["2", "-", "stopped"], f"nobody: {told['nobody']}")
-    place.require(lines["0"] == ["0", "11", "11", "0"], f"shard 0: {lines['0']}")
+    read, end, lag = lines["0"][1:]
+    place.require(read == end and int(end) >= 11 and lag == "0", f"shard 0: {lines['0']}")
     code, lines = ask_status(place, *where, "--standing")
     place.require(code == 1 and {"tom", "nobody"} == set(lines) - {"NAME", "SHARD", "0"},
                   f"--standing: {code}: {lines}")
     place.end(receiver)
     place.start("receiver")
     place.await_delivered({"tom": 5})
-    code, lines = ask_status(place, "--store", place.store, "--standing")
-    place.require(code == 0 and "tom" not in lines, f"afterwards: {code}: {lines}")
+    place.require(place.wait(lambda: "tom" not in ask_status(place, *where, "--standing")[1], 5),
+                  f"afterwards: {ask_status(place, *where, '--standing')}")
+
+
+def status_of_refused(place):
+    """Of a session whose frames are refused by a receiver whose clock is wrong, as its store and its outbox say."""
+    place.put(texts("ann", 0, 5))
+    place.start("sender")
+    receiver = place.start("receiver", clock=2 * DAYS)
+    for words, wanted in ((("--outbox", place.outbox), "receivers refuse frame 1"),
+                          (("--store", place.store), "the time is off")):
+        place.require(place.wait(lambda: wanted in " ".join(ask_status(place, *words)[1].get("ann", [])), 10),
+                      f"{wanted}: {ask_status(place, *words)}")
+    place.end(receiver)
+    place.start("receiver")
+    place.await_delivered()
+    for words in (("--outbox", place.outbox), ("--store", place.store)):
+        place.require(place.wait(lambda: ask_status(place, *words, "--standing")[0] == 0, 5),
+                      f"afterwards: {ask_status(place, *words)}")
 
 
 def supervisor(place):
@@ -1238,21 +1316,22 @@ CASES = (
          10),
     Case(poison_in_load, "one comes after 1,500 texts of its session",
          {"ann": 1500, "tom": 300}, 10),
+    Case(texts_in_turn, "texts come one by one while 3,000 of their session wait", {"ann": 3300}, 20, (ANN,)),
     Case(poison_numbers, "a session's numbers end", {"ann": 5, "tom": 300}, 10,
          (ANN.replace(" 1 10", f" {LAST - 5} 10"), TOM)),
     Case(poison_no_line, "the line of a session with texts is taken out", {"tom": 300}, 10),
     Case(unknown_text, "100,000 texts of a session without a line wait", {"ann": 3}, 10),
-    Case(clock_receiver, "a receiver's clock is two days ahead at first", {"ann": 100}, 10),
+    Case(clock_receiver, "a receiver's clock is two days ahead at first", {"ann": 100}, 25),
     Case(clock_beside, "one of two receivers has a clock that is two days ahead, for two seconds",
-         {"ann": 100}, 20),
+         {"ann": 100}, 45),
     Case(clock_sender, "a sender's clock is two days off at first; then --skew is three days",
-         {"ann": 200}, 10),
+         {"ann": 200}, 25),
     Case(skew_word, "--skew 24h", {"ann": 100}, 10),
     Case(session_later, "a receiver doesn't have a session's line at first",
-         {"ann": 100, "tom": 100}, 10),
-    Case(session_away, "a receiver doesn't have a session's line for a while", {"tom": 100}, 10),
-    Case(key_later, "a receiver has a wrong key at first", {"ann": 100}, 10),
-    Case(new_session, "sessions get a line at both ends, which run", {"ann": 5, "tom": 20}, 15),
+         {"ann": 100, "tom": 100}, 25),
+    Case(session_away, "a receiver doesn't have a session's line for a while", {"tom": 100}, 25),
+    Case(key_later, "a receiver has a wrong key at first", {"ann": 100}, 25),
+    Case(new_session, "sessions get a line at both ends, which run", {"ann": 5, "tom": 20}, 40),
     Case(new_line_of_stopped, "a session whose texts wait gets a line", {"ann": 5, "tom": 20}, 15),
     Case(bad_new_file, "a file of sessions gets a malformed line, and then another one",
          {"ann": 5, "tom": 3, "abe": 7}, 20),
@@ -1261,10 +1340,10 @@ CASES = (
     Case(many_sessions, "100,000 sessions, of which ten have texts", {}, 60),
     Case(stale_repeats, "frames that took effect come again, older than the skew", {"ann": 1000},
          10),
-    Case(two_reads, "a receiver pauses between its two reads", {"ann": 10}, 12),
+    Case(two_reads, "a receiver pauses between its two reads", {"ann": 10}, 30),
     Case(unstable_offsets, "other frames stand at the offsets than a reader was given",
-         {"ann": 10}, 20),
-    Case(unstable_end, "the same of the last frames of a session", {"ann": 10}, 15, (ANN,)),
+         {"ann": 10}, 30),
+    Case(unstable_end, "the same of the last frames of a session", {"ann": 10}, 30, (ANN,)),
     Case(carrier_replaced, "the carrier's file is replaced by an empty one", {"ann": 5010}, 15),
     Case(nats_stream_replaced, "the stream is deleted after all was delivered", {"ann": 5010}, 20,
          nats=""),
@@ -1286,8 +1365,8 @@ CASES = (
     Case(shared_until_closed, "receivers that share shards, until all is closed",
          {f"t{it}": 5 for it in range(8)}, 20, EIGHT, "auto"),
     Case(restore_outbox, "the outbox is restored from a backup that is 100 texts old",
-         {"ann": 200, "tom": 10}, 10),
-    Case(lose_outbox, "a sender begins elsewhere with a new outbox", {"ann": 200, "tom": 10}, 10),
+         {"ann": 200, "tom": 10}, 20),
+    Case(lose_outbox, "a sender begins elsewhere with a new outbox", {"ann": 200, "tom": 10}, 20),
     Case(numbers_end, "a session's close has the last number", {"ann": 2}, 15,
          (ANN.replace(" 1 10", f" {LAST - 2} 10"),)),
     Case(effect_fails, "the store refuses the effect of a text, for a while", {"ann": 10, "tom": 10},
@@ -1295,12 +1374,14 @@ CASES = (
     Case(replicas_on_one_node, "--replicas 3, and there is one node", {"ann": 10}, 15, (ANN,), nats=""),
     Case(outbox_corrupt, "the outbox is overwritten below a sender", {"ann": 10}, 15, (ANN,)),
     Case(old_files, "an outbox and a store were made by an older version", {"ann": 5}, 10),
+    Case(version_before, "an outbox and a store of the version before", {"ann": 30, "tom": 30}, 30,
+         (ANN.rstrip("\n") + f" {'33' * 16}\n", TOM)),
     Case(stream_full, "the stream of one shard is full", {"tom": 500}, 10, (ANN, TOM_1), "0,1", ""),
     Case(max_payload, "a frame is longer than the broker takes", {"abe": 300, "tom": 500}, 10,
          (ABE, ANN, TOM_1), "0,1", "max_payload: 65536"),
     Case(receiver_first, "a receiver is started first; a stream has fewer replicas than asked for",
          {"ann": 10}, 15, nats=""),
-    Case(forged_confirmation, "somebody confirms frames at the offset 2^62", {"ann": 5}, 15,
+    Case(forged_confirmation, "somebody confirms frames at the offset 2^62", {"ann": 5}, 25,
          nats=""),
     Case(zombie_sender, "a sender is cut off while another one takes over", {"ann": 55}, 15,
          nats=""),
@@ -1309,7 +1390,8 @@ CASES = (
     Case(bad_sessions, "files of sessions that are wrong", {}, 10),
     Case(permissions, "who may read the files", {"ann": 5}, 10),
     Case(metrics, "the numbers that programs show", {"ann": 300}, 15),
-    Case(status, "carrier/status, of a session that stands and one that is stopped", {"ann": 5}, 15),
+    Case(status, "carrier/status, of a session that stands and one that is stopped", {"ann": 5}, 60),
+    Case(status_of_refused, "carrier/status, of a session whose frames are refused", {"ann": 5}, 40),
     Case(supervisor, "what a supervisor is told", {"ann": 5}, 15),
     Case(terminate, "SIGTERM, wherever programs wait", {"ann": 5}, 60, nats=""),
 )

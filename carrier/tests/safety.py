@@ -81,7 +81,7 @@ def deliver_after_a_backup(place):
 def restored_and_purged(place):
     deliver_after_a_backup(place)
     change(place, "carrier", "DELETE FROM carried")
-    require_unlost(place, drain(place), "hasn't all frames after offset")
+    require_unlost(place, drain(place), "older than what has left")
 
 
 def restored_and_others(place):
@@ -130,8 +130,8 @@ def restored_with_its_frames(place):
 
 
 def restore_unread(place, sql):
-    """The same of a session with receipts, of which there is none yet, and this is the last frame. Nothing that
-    is put in afterwards leaves, the close neither."""
+    """The same of a session of which no receipt has come yet, and this is the last frame. What is put in afterwards
+    isn't taken for delivered: the first receipt stops the session."""
     place.put(texts("ann", 0, 1))
     place.run("sender", "--drain")
     backup(place)
@@ -140,12 +140,14 @@ def restore_unread(place, sql):
     restore(place)
     change(place, "carrier", f"INSERT INTO carried (shard, session, frame) {sql}")
     place.put(new_texts("ann", 2) + repro.close("ann"))
-    status, _ = place.run("sender", "--drain", seconds=8)
-    place.require(status == 4, f"sender --drain: status {status}")
-    require_stopped(place, "ann", "older than what has left")
+    sender = place.start("sender")
     place.start("receiver")
     place.await_delivered()
-    place.require(place.ask("store", "SELECT next, closed FROM session") == [(4, 0)], "more took effect")
+    place.require(place.wait(lambda: place.count("outbox", "stopped") == 1, 8), "it isn't stopped")
+    require_stopped(place, "ann", "took effect")
+    place.end(sender)
+    kept = place.count("outbox", "text") + place.count("outbox", "sealed")
+    place.require(kept == 4, f"of four texts and the close it keeps {kept}")
 
 
 def restored_unread_junk(place):
@@ -170,11 +172,11 @@ def restored_and_purged_stream(place):
     require_unlost(place, drain(place), "all below 31 took effect")
 
 
-def restored_without_receipts(place):
-    """The same without receipts: the carrier has lost the frames by which it could be seen."""
+def restored_without_a_key(place):
+    """The same of a session whose line has no key of the way back."""
     deliver_after_a_backup(place)
     jetstream.request(place.nats.ports[0], "STREAM.PURGE.KRB_0")
-    require_unlost(place, drain(place), "hasn't all frames after offset")
+    require_unlost(place, drain(place), "all below 31 took effect")
 
 
 def restored_beside_frames(place):
@@ -189,7 +191,7 @@ def restored_and_all_purged(place):
     deliver_after_a_backup(place)
     for stream in ("KRB_0", "KRB_RECEIPTS"):
         jetstream.request(place.nats.ports[0], f"STREAM.PURGE.{stream}")
-    receiver, sender = place.start("receiver"), place.start("sender", "--patience", "1")
+    receiver, sender = place.start("receiver"), place.start("sender")
     place.require(place.wait(lambda: place.count("outbox", "stopped") > 0, 15), "it isn't stopped")
     require_stopped(place, "ann", "not all frames below number")
     for it in (sender, receiver):
@@ -283,7 +285,7 @@ def copied_and_both_run(place):
     await_no_frames(place)
     backup(place, "copy")
     copy = f"{place.folder}/copy.db"
-    senders = place.start("sender", "--patience", "1"), place.start("sender", "--patience", "1", outbox=copy)
+    senders = place.start("sender"), place.start("sender", outbox=copy)
     for it in range(50):
         place.put([("ann", f"one {it}".encode())])
         place.put([("ann", f"two {it}".encode())], outbox=copy)
@@ -313,7 +315,7 @@ def await_no_frames(place):
 
 def copied_with_receipts(place):
     copy = copied_and_cut_off(place)
-    sender = place.start("sender", "--patience", "1", outbox=copy)
+    sender = place.start("sender", outbox=copy)
     is_told = place.wait(lambda: any("are of this outbox" in it for it, in place.ask(
         "copy", "SELECT reason FROM stopped")), 10)
     place.require(is_told, f"stopped: {place.ask('copy', 'SELECT reason FROM stopped')}")
@@ -324,13 +326,14 @@ def copied_with_receipts(place):
     place.await_delivered()
 
 
-def copied_without_receipts(place):
+def copied_and_sealed(place):
+    """The same, and texts are put into the copy before its sender begins: it hears the last receipt first."""
     copy = copied_and_cut_off(place)
     place.put(new_texts("ann", 3), outbox=copy)
     status, _ = place.run("sender", "--drain", outbox=copy, seconds=8)
     place.require(status == 4, f"sender --drain: status {status}")
     reasons = place.ask("copy", "SELECT session, reason FROM stopped")
-    place.require(any("another frame of number" in it for _, it in reasons), f"stopped: {reasons}")
+    place.require(any("are of this outbox" in it for _, it in reasons), f"stopped: {reasons}")
     place.require(place.count("copy", "text") == 3, "texts left that were put in later")
     place.await_delivered()
 
@@ -429,11 +432,10 @@ def many_lines():
 
 
 def receipts_unanswered(place):
-    """Sessions that wait for receipts, and the carrier doesn't answer for those: another session goes on."""
-    place.env["RECEIPTS_UNANSWERED"] = "1000"
+    """Sessions wait for receipts of a receiver that doesn't know them: another session goes on."""
     place.put([row for it in range(MANY) for row in texts(f"w{it}", 0, 1)])
     place.start("sender")
-    place.start("receiver")
+    place.start("receiver", sessions=place.other([ANN]))
     time.sleep(3)
     for it in range(20):
         place.put(texts("ann", it, it + 1))
@@ -518,21 +520,24 @@ def backlog_of_shards(place):
     place.require(published < 1.5 * SHARDS * IN_EACH, f"{published} frames: {told[-300:]}")
 
 
+def is_carried(place):
+    return not place.ask("outbox", "SELECT 1 FROM session WHERE carried < next")
+
+
 def node_stopped_with_backlogs(place):
     """A node stands for 12 s while the windows of 32 shards fill: then all is confirmed without a stall, and
     what waited leaves twice at most."""
     place.put([row for it in range(SHARDS) for row in texts(f"t{it}", 0, 1)])
     sender = place.start("sender")
-    place.require(place.wait(lambda: place.count("outbox", "session") == SHARDS
-                             and place.count("outbox", "frame") == 0, 20), "the first aren't carried")
+    place.require(place.wait(lambda: place.count("outbox", "session") == SHARDS and is_carried(place), 20),
+                  "the first aren't carried")
     place.nats.running[0].send_signal(signal.SIGSTOP)
     place.put([row for it in range(SHARDS) for row in texts(f"t{it}", 1, IN_EACH)])
     time.sleep(12)
     place.nats.running[0].send_signal(signal.SIGCONT)
-    place.require(place.wait(lambda: place.count("outbox", "text") + place.count("outbox", "frame") == 0, 30),
+    place.require(place.wait(lambda: place.count("outbox", "text") == 0 and is_carried(place), 30),
                   "not all is carried 30 s after the node goes on")
     place.end(sender)
-    place.require("confirmation_false" not in place.log(sender), "a true confirmation is taken for a false one")
     published = sum(jetstream.stream(place.nats.ports[0], it)["state"]["messages"] for it in range(SHARDS))
     place.require(published < 3 * SHARDS * IN_EACH, f"{published} frames")
 
@@ -610,7 +615,7 @@ CASES = (
          20, (WITH_RECEIPTS,)),
     Case(restored_and_purged_stream, "it is restored, its stream was purged; receipts", {"ann": 30}, 30,
          (WITH_RECEIPTS,), nats=""),
-    Case(restored_without_receipts, "it is restored, its stream was purged; no receipts", {"ann": 30}, 30,
+    Case(restored_without_a_key, "the same of a line without a key of the way back", {"ann": 30}, 30,
          (ANN,), nats=""),
     Case(restored_beside_frames, "it is restored over JetStream", {"ann": 30}, 30, (ANN,), nats=""),
     Case(restored_and_all_purged, "it is restored, and no frame and no receipt is left", {}, 40,
@@ -621,7 +626,7 @@ CASES = (
     Case(copied_amid_texts_receipted, "the same with receipts", {"ann": 20}, 20, (WITH_RECEIPTS,)),
     Case(copied_with_receipts, "a copy of an outbox seals the same numbers; receipts", {"ann": 15}, 25,
          (WITH_RECEIPTS,)),
-    Case(copied_without_receipts, "a copy of an outbox seals the same numbers; no receipts", {"ann": 15},
+    Case(copied_and_sealed, "a copy of an outbox has sealed the same numbers, and gets texts", {"ann": 15},
          25, (ANN,)),
     Case(copied_and_both_run, "senders of two copies of an outbox run side by side", {}, 40, (WITH_RECEIPTS,)),
     Case(no_memory_at_a_refusal, "a refused frame can't be looked at, since there is no memory",
@@ -630,7 +635,7 @@ CASES = (
     Case(outbox_replaced, "the outbox's file is replaced below a sender", {"ann": 6}, 15, (ANN,)),
     Case(stopped_names, "texts of two names without a line, in turns", {}, 15, (ANN,)),
     Case(waiting_shown, "500 frames wait for receipts", {"ann": 500}, 25, (WITH_RECEIPTS,)),
-    Case(receipts_unanswered, "40 sessions wait for receipts, of which the carrier tells nothing",
+    Case(receipts_unanswered, "40 sessions wait for receipts, of a receiver that has no lines of them",
          {"ann": 20}, 20, (ANN, *many_lines())),
     Case(first_texts, "first texts of 2,048 sessions beside 65,536 frames", {}, 40,
          short_lines(FIRST_TEXTS)),

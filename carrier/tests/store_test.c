@@ -127,92 +127,6 @@ static void test_compared(struct store *one)
     stands(one, 12, 9, 0, "nothing of them is stored");
 }
 
-/* Names and offsets that are noted as passed by. */
-struct notes { unsigned count; uint64_t offset; char name[32]; };
-
-static int note_name(void *given, const char *session, uint64_t offset)
-{
-    struct notes *notes = given;
-    notes->count++;
-    notes->offset = offset;
-    strcpy(notes->name, session);
-    return 0;
-}
-
-static struct notes notes_of(struct store *s, unsigned shard)
-{
-    struct notes notes = { 0, 0, "" };
-    check(store_passed(s, shard, note_name, &notes) == 0, "read");
-    return notes;
-}
-
-static void pass(struct store *s, const char *session, uint64_t offset)
-{
-    const struct reached from = at(12);
-    check(store_begin(s, SHARD, &from, &from) == 0, "begin");
-    check(store_pass(s, SHARD, session, offset) == 0 && store_commit(s) == 0, "pass");
-}
-
-/* The first frame of a name is noted, until the note is ended. */
-static void test_passed(struct store *one, struct store *other)
-{
-    const struct reached from = at(12);
-    struct notes notes;
-    pass(one, "nobody", 3);
-    pass(one, "nobody", 4);
-    notes = notes_of(other, SHARD);
-    check(notes.count == 1 && notes.offset == 3 && strcmp(notes.name, "nobody") == 0, "one note");
-    check(notes_of(other, SHARD + 1).count == 0, "of this shard alone");
-    check(store_begin(one, SHARD, &from, &from) == 0 && store_find(one, SHARD, "other") == 0
-              && store_commit(one) == 0 && notes_of(other, SHARD).count == 1, "another's end");
-    check(store_begin(one, SHARD, &from, &from) == 0 && store_find(one, SHARD, "nobody") == 0
-              && store_commit(one) == 0 && notes_of(other, SHARD).count == 0, "its end");
-}
-
-/* So many names are noted, and one more for all others, at the first of their frames. */
-static void test_many_passed(struct store *s)
-{
-    const struct reached from = at(12);
-    struct notes notes;
-    char text[32];
-    unsigned i;
-    check(store_begin(s, SHARD, &from, &from) == 0, "begin");
-    for (i = 0; i < STORE_NOTED + 10; i++) {
-        snprintf(text, sizeof text, "x%u", i);
-        check(store_pass(s, SHARD, text, 100 + i) == 0, "pass");
-    }
-    check(store_commit(s) == 0, "commit");
-    notes = notes_of(s, SHARD);
-    check(notes.count == STORE_NOTED + 1, "so many notes");
-    check(store_begin(s, SHARD, &from, &from) == 0, "begin");
-    for (i = 0; i < STORE_NOTED; i++) {
-        snprintf(text, sizeof text, "x%u", i);
-        check(store_find(s, SHARD, text) == 0, "end");
-    }
-    check(store_commit(s) == 0, "commit");
-    notes = notes_of(s, SHARD);
-    check(notes.count == 1 && *notes.name == 0 && notes.offset == 100 + STORE_NOTED, "the others'");
-    check(store_begin(s, SHARD, &from, &from) == 0 && store_find(s, SHARD, "") == 0
-              && store_commit(s) == 0 && notes_of(s, SHARD).count == 0, "their end");
-}
-
-/* A session that misses something is found by that. */
-static void test_standing(struct store *one, struct store *other)
-{
-    const struct reached from = at(12);
-    const struct demand fine = demands(9, 12);
-    struct demand missed = fine, found = { 0 };
-    missed.missed = KRBRELAY_MISSED_UNSETTLED;
-    check(store_standing(other, SHARD, note, &found) == 0 && !found.is_stored, "none stands");
-    check(store_begin(one, SHARD, &from, &from) == 0 && store_advance(one, name, &fine, &missed) == 0
-              && store_commit(one) == 0, "it misses something");
-    check(store_standing(other, SHARD + 1, note, &found) == 0 && !found.is_stored, "no other's");
-    check(store_standing(other, SHARD, note, &found) == 0, "read");
-    check(found.is_stored && found.missed == KRBRELAY_MISSED_UNSETTLED && found.next == 9, "it stands");
-    check(store_begin(one, SHARD, &from, &from) == 0 && store_advance(one, name, &missed, &fine) == 0
-              && store_commit(one) == 0, "it misses nothing");
-}
-
 /* A shard that moves to another list: places are at its beginning, and nothing is missed. */
 static void test_other_list(struct store *one, struct store *other)
 {
@@ -222,14 +136,12 @@ static void test_other_list(struct store *one, struct store *other)
     struct demand found = { 0 }, reset = after;
     struct reached reached;
     reset.at = reset.missed = 0;
-    pass(one, "nobody", 3);
     check(store_begin(one, SHARD, &from, &from) == 0 && store_advance(one, name, &fine, &after) == 0
               && store_commit(one) == 0, "it misses something");
     check(store_begin(one, SHARD, &from, &to) == 0 && store_commit(one) == 0, "another list");
     check(store_reached(other, SHARD, &reached) == 0 && read_session(other, &found) == 0, "read");
     check(reached.incarnation == LIST + 1 && reached.offset == 3, "it is stored");
     check(found.at == 0 && found.missed == KRBRELAY_MISSED_NOTHING && found.next == 9, "its place");
-    check(notes_of(other, SHARD).count == 0, "no notes");
     check(store_begin(one, SHARD, &to, &from) == 0 && store_advance(one, name, &reset, &fine) == 0
               && store_commit(one) == 0, "back again");
 }
@@ -303,9 +215,6 @@ int main(int count, char **words)
     check(one != NULL && other != NULL, "open");
     test_fences(one, other);
     test_compared(one);
-    test_passed(one, other);
-    test_many_passed(one);
-    test_standing(one, other);
     test_other_list(one, other);
     test_rollback(one, other);
     from = at(test_two(one, other));

@@ -474,7 +474,7 @@ def many_streams(place):
 
 
 def before_its_turn(place):
-    """A session's frames stand before the close of the one before it: they wait for it."""
+    """A session's frames stand before the close of the one before it: they are refused, and come again."""
     for low in (0, 10):
         place.put(streams_of(place, low + 10, low))
         place.run("sender", "--drain", life="1")
@@ -489,6 +489,7 @@ def before_its_turn(place):
     file.close()
     place.require(close == 12, f"the close stands at {close}")
     receiver = place.start("receiver")
+    place.start("sender", life="1")
     place.await_delivered()
     place.require(loglines.has(place.log(receiver), "frame_early", before=first), "it isn't said")
 
@@ -562,7 +563,7 @@ def closed_anew(place):
             file.execute(sql)
         file.close()
     place.put([("orders", f"new {it}".encode()) for it in range(5)])
-    place.start("sender", "--patience", "1", life="1")
+    place.start("sender", life="1")
     told = place.wait(lambda: any("session_forked" in place.log(it) for it in place.running), 10)
     place.require(told, "the receiver doesn't say that the session is forked")
     stopped = place.wait(lambda: place.count("outbox", "stopped") > 0, 10)
@@ -582,7 +583,7 @@ def restored_streams(place):
             rows.update({name: it + 1 for name, it in rows.items()})
             time.sleep(0.1)
     place.put([])
-    sender = place.start("sender", "--patience", "1", life="2")
+    sender = place.start("sender", life="2")
     place.start("receiver")
     put(40)
     safety.backup(place)
@@ -591,7 +592,7 @@ def restored_streams(place):
     sender.wait()
     safety.restore(place)
     before = dict(rows)
-    place.start("sender", "--patience", "1", life="2")
+    place.start("sender", life="2")
     put(20)
     stopped = place.wait(lambda: place.count("outbox", "stopped") > 0
                          or any(place.refused(it, "OPENING_FORKED") for it in place.running), 15)
@@ -626,7 +627,7 @@ def opening_anew(place):
     time.sleep(5)
     receiver = place.start("receiver")
     place.require(place.wait(lambda: place.refused(receiver, "OPENING_SKEW"), 5), "not refused")
-    place.start("sender", patience="1")
+    place.start("sender")
     place.put(streams_of(place, 40, 20))
     place.await_delivered()
     place.require(len(place.opened()) == 1, f"{len(place.opened())} sessions")
@@ -697,7 +698,7 @@ class Nodes:
             self.start(name)
 
     def start(self, name):
-        more = {"life": "2", "retry": "500", "patience": "3"} if name == "sender" else {
+        more = {"life": "2"} if name == "sender" else {
             "store": self.postgres.where, "batch": "50", "shards": "0,1"}
         self.running[name] = self.place.start(name.split()[0], **self.GIVEN | more)
 
@@ -811,7 +812,8 @@ def exchanged_rows(place):
     receiver = place.start("receiver")
     place.require(place.wait(lambda: loglines.has(place.log(receiver), "key_of_another_row"), 5),
                   "it isn't noticed")
-    place.await_delivered()     # the first openings, which are read again, wrap them as they were
+    place.start("sender")
+    place.await_delivered()     # its openings wrap them as they were
 
 
 def words(place):
