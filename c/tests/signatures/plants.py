@@ -217,8 +217,8 @@ def missing(given: Given, plant: Plant, before: List[str]) -> str:
 
 
 def control(count: report.Count, given: Given) -> None:
-    """Each plant is seen, by the line that names what it changed."""
+    """Each plant is seen, by the line that names what it changed. Those of enums are of the library's calls."""
     before = faults_of(given)
-    for plant in PLANTS:
+    for plant in PLANTS if given.library else [it for it in PLANTS if not it.expected.startswith("enum")]:
         why = missing(given, plant, before)
         count.right(not why, f"FAILED control: {plant.name}: {why}")

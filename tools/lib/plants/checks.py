@@ -134,7 +134,8 @@ def package(copy: Copy, room: str) -> Told:
 def tool(copy: Copy, what: str) -> Told:
     return copy.run({"self": ["pytest", "-q", "-x", "tests/test_tools.py"],
                      "tables": ["pytest", "-q", "-x", "tests/test_tables.py"],
-                     "test_building": ["tools/test_building"],
+                     "release": ["pytest", "-q", "-x", "tests/test_release.py"],
+                     "test_building": ["tools/test_building"], "test_parts": ["tools/test_parts"],
                      "conformance": ["conformance/test", "--quick"]}[what], cwd=copy.top)
 
 
