@@ -126,6 +126,7 @@ PARTS = [
     Part("pytest carrier/tests/test_statements.py", 1, (PYTEST,), over=()),
     Part("pytest carrier/tests/test_packages.py", 1, (PYTEST,), over=()),
     Part("pytest carrier/tests/test_effects.py", 10, (PYTEST, "rt", COMPILER, MAKE, SQLITE), LIBRARY.command, over=()),
+    Part("pytest carrier/tests/test_left.py", 5, (PYTEST, "rt", COMPILER, CRYPTOGRAPHY, MAKE, SQLITE), LIBRARY.command, over=()),
     Part("pytest carrier/tests/test_simulation.py", 1, (PYTEST,), over=()),
     Part("pytest carrier/tests/test_simulation_proved.py", 2, (PYTEST, "rt", COMPILER, MAKE), LIBRARY.command, over=()),
     Part("tests/job_check", 1, (CRYPTOGRAPHY,), over=()),
