@@ -93,13 +93,15 @@ int main(void) {{ check({fact}, "planted"); return 0; }}
 
 # ---- the object that is compared with the kit's
 
-CODE = "extern int other(int); int shown = {data}; int planted(int a) {{ return {call}(a) + {more}; }}\n"
+# Both functions are declared, so that a call of the other one has the same instructions.
+CODE = ("extern int other(int), another(int); int shown = {data};"
+        " int planted(int a) {{ return {call}(a) + {more}; }}\n")
 
 
 def compared(folder, **changed):
     """Compares an object with one in which this is another."""
     plain = {"data": 7, "call": "other", "more": 300}
-    objects = [compiled(folder, f"object{at}.o", CODE.format(**it), "-c", "-O2", "-Wno-implicit")
+    objects = [compiled(folder, f"object{at}.o", CODE.format(**it), "-c", "-O2")
                for at, it in enumerate((plain, plain | changed))]
     return status(sys.executable, f"{building.TOP}/c/tests/same_code.py", *objects)
 
