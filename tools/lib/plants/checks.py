@@ -138,7 +138,7 @@ OF_PLANTS = "tests/test_tools.py::test_a_plant_applies_and_names_checks"
 def tool(copy: Copy, what: str) -> Told:
     return copy.run({"self": ["pytest", "-q", "-x", "--deselect", OF_PLANTS, "tests/test_tools.py"],
                      "tables": ["pytest", "-q", "-x", "tests/test_tables.py"],
-                     "release": ["pytest", "-q", "-x", "tests/test_release.py"],
+                     "verdicts": ["pytest", "-q", "-x", "-k", "verdict", "tests/test_release.py"],
                      "test_building": ["tools/test_building"], "test_parts": ["tools/test_parts"],
                      "conformance": ["conformance/test", "--quick"]}[what], cwd=copy.top)
 
