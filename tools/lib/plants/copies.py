@@ -43,6 +43,15 @@ def code_of_library() -> str:
     return made
 
 
+def program_of_sources(crate: str, *words: str) -> str:
+    """A program of a crate as it stands here, compiled once without proofs: for all copies that change no crate."""
+    made = os.path.join(ROOM.name, "-".join([crate, *words]))
+    with ONE:
+        if not os.path.exists(made):
+            without_proofs.program(building.TOP, made, crate, *words)
+    return made
+
+
 class Copy:
     """A copy with a plant, or with none."""
 
@@ -103,7 +112,10 @@ class Copy:
         """A program of a crate, which is noted as built from the copy's sources."""
         made = os.path.join(self.top, "crates", crate, "out", name)
         os.makedirs(os.path.dirname(made), exist_ok=True)
-        without_proofs.program(self.top, made, crate, *words)
+        if self.changes_crates:
+            without_proofs.program(self.top, made, crate, *words)
+        else:
+            shutil.copy(program_of_sources(crate, *words), made)
         noted, said = self.run(["python3", "-c", NOTE.format(made=made, crate=crate)],
                                cwd=os.path.join(self.top, "tools"))
         if not noted:
