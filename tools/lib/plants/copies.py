@@ -13,6 +13,7 @@ LIBRARY = without_proofs.LIBRARY
 PROVED = os.path.join(building.folder_of(LIBRARY), "out", "c_library")
 FLAGS = ["-std=gnu11", "-O2", "-w"]
 SECONDS = 900
+AUTHOR = ["-c", "user.name=plants", "-c", "user.email=plants@localhost"]
 NOTE = "from lib.build import building; building.note({made!r}, building.digest_of({crate!r}))"
 
 
@@ -63,7 +64,8 @@ class Copy:
             place = os.path.join(self.top, name)
             os.makedirs(os.path.dirname(place), exist_ok=True)
             shutil.copy(os.path.join(building.TOP, name), place)
-        subprocess.run(["git", "init", "-q", self.top], check=True)
+        for words in ("init -q", "add -A", "commit -qm copy"):      # some tests ask for the commit, or what is in it
+            subprocess.run(["git", "-C", self.top, *AUTHOR, *words.split()], check=True)
         for edit in plant.edits if plant else ():
             planted.make(edit, self.top)
 
