@@ -362,6 +362,10 @@ def test_a_plant_around_a_call_is_c(name):
      "fn krb_carry::place::Place::take: not proved", "`returns-clause-moved`"),
     ("./proofs/place/Place/gone/Answers.antt:9:5: error: `returns-clause-moved`: the two types differ\n"
      "fn krb_carry::place::Place::take: not proved", ""),
+    ("note: src/place.rt:9:1: it is not proved that what the function ensures holds (`returns-clause-none`); more\n"
+     "fn krb_carry::place::Place::take: not proved", "`returns-clause-none`"),
+    ("note: src/place.rt:9:1: it is not proved that what the function ensures holds (`returns-clause-none`); more\n"
+     "fn krb_carry::place::Place::gone: not proved\nfn krb_carry::place::Place::take: not proved", ""),
     ("fn krb_carry::place::Place::take: proved", ""),
     ("src/place.rt is not in the layout\nrt: krb_carry NOT PROVED", ""),
     ("fn krb_carry::place::follow: no proof: it calls `krb_carry::place::Place::take`, which is not proved", "")])
