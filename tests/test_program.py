@@ -229,8 +229,8 @@ LONGEST_NAP = 5_120     # microseconds
 
 
 def naps(t, job, pause=0):
-    """How often the threads of `relay` that seal wait for a time, and the longest that they ask for. The
-    thread that takes frames pauses for so many microseconds after each wait."""
+    """How often the threads of `relay` that seal wait for a time, the longest that they ask for, and how often they
+    give way to others. The thread that takes frames pauses for so many microseconds after each wait."""
     with tempfile.TemporaryDirectory() as folder:
         told = os.path.join(folder, 'told')
         given = dict(os.environ, LD_PRELOAD=c_tools.preloaded(folder, 'tests', 'preloaded', 'naps.c'),
@@ -245,15 +245,15 @@ def lane_of(texts, capacity):
     return (f'capacity = {capacity}\n' + jobs.sender(session, texts=texts)).encode()
 
 
-def test_no_nap_where_there_is_room(t):
-    """61 texts, their close and the end of the lane fit it."""
-    assert naps(t, lane_of([b'hi'] * 61, 64)) == (0, 0)
+def test_no_rest_where_there_is_room(t):
+    """61 texts, their close and the end of the lane fit it: a sender neither naps nor gives way."""
+    assert naps(t, lane_of([b'hi'] * 61, 64)) == (0, 0, 0)
 
 
 def test_naps_are_short(t):
     """A sender whose lane is full looks again soon, however long it stays so."""
-    times, longest = naps(t, lane_of([b'hi'] * 5, 1), pause=100_000)
-    assert times > 0 and longest <= LONGEST_NAP
+    times, longest, yields = naps(t, lane_of([b'hi'] * 5, 1), pause=100_000)
+    assert times > 0 and longest <= LONGEST_NAP and yields > 0
 
 
 def test_nothing_is_read(t):

@@ -233,13 +233,15 @@ def test_the_checkout_is_compared(made, monkeypatch):
 
 def test_what_comes_out_otherwise_is_told(folder, monkeypatch, tmp_path):
     """It is made again of new assembly: what was kept of it is removed first."""
-    kept = tmp_path / "dist"
+    kept, forgotten = tmp_path / "dist", []
+    monkeypatch.setattr(verifying.assembly, "forget", forgotten.append)
     kept.mkdir()
     tool = scripts.load("c/dist")
     tool.OUT = str(kept)
     monkeypatch.setattr(verifying.scripts, "load", lambda name: tool)
     monkeypatch.setattr(verifying.making, "make", lambda place: shutil.copytree(made_of(folder), place))
     assert list(verifying.made_again(str(folder))) == [] and not kept.exists()
+    assert forgotten == ["krb_c", "krbrelay"]
     flip(str(folder), WHEEL, 30)
     assert list(verifying.made_again(str(folder))) == [f"{WHEEL} comes out with other bytes"]
 

@@ -14,13 +14,16 @@ import pytest
 from lib import parts, report, scripts
 from lib.build import assembly, building, c_tools
 from lib.plants import checks, planted, wrapped
+from signatures import plants as signature_plants
+from signatures.given import Given
 from vectors import held, judging, model, readers
 from vectors.judging import Class
 
 # What each of these plants in each run, and has to report.
 OWN_CONTROLS = {
     "c/signatures": "faults in the header, the sources and the map (c/tests/signatures/plants.py)",
-    "tests/residue": "strings in a freed block and in what realloc leaves (tests/preloaded/left.c)",
+    "c/costs": "costs that are higher, lower or of no case (tools/lib/cost_table.py)",
+    "tests/residue": "strings and a key in freed blocks and in what realloc leaves (tests/preloaded/left.c)",
     "tests/secret_places": "an address and a branch by a secret (tests/secrets/src/control.rattle)",
 }
 LINES = ["lane 0 text 61", "lane 1 text 62", "lane 0 closed", "lane 1 closed"]
@@ -90,13 +93,15 @@ int main(void) {{ check({fact}, "planted"); return 0; }}
 
 # ---- the object that is compared with the kit's
 
-CODE = "extern int other(int); int shown = {data}; int planted(int a) {{ return {call}(a) + {more}; }}\n"
+# Both functions are declared, so that a call of the other one has the same instructions.
+CODE = ("extern int other(int), another(int); int shown = {data};"
+        " int planted(int a) {{ return {call}(a) + {more}; }}\n")
 
 
 def compared(folder, **changed):
     """Compares an object with one in which this is another."""
     plain = {"data": 7, "call": "other", "more": 300}
-    objects = [compiled(folder, f"object{at}.o", CODE.format(**it), "-c", "-O2", "-Wno-implicit")
+    objects = [compiled(folder, f"object{at}.o", CODE.format(**it), "-c", "-O2")
                for at, it in enumerate((plain, plain | changed))]
     return status(sys.executable, f"{building.TOP}/c/tests/same_code.py", *objects)
 
@@ -113,11 +118,14 @@ def test_another_object_is_refused(tmp_path, changed):
 
 # ---- what is searched in freed blocks
 
-@pytest.mark.parametrize("text, found", [("left in a freed block", 1), ("left by a realloc", 1),
-                                         ("left in no block at all", 0)])
-def test_residue_ends_with_1_where_a_string_is_left(tmp_path, text, found):
+LEFT = {**scripts.load("tests/residue").LEFT, "what is in no block": b"left in no block at all"}
+
+
+@pytest.mark.parametrize("what", LEFT)
+def test_residue_ends_with_1_where_a_string_is_left(tmp_path, what):
     left = c_tools.program(str(tmp_path), "tests", "preloaded", "left.c")
-    assert status(f"{building.TOP}/tests/residue", f"planted={text.encode().hex()}", left) == found
+    found = status(f"{building.TOP}/tests/residue", f"planted={LEFT[what].hex()}", left)
+    assert found == (0 if what == "what is in no block" else 1)
 
 
 # ---- the sweep
@@ -216,6 +224,109 @@ def test_what_a_reader_does_otherwise_is_a_fault(wanted, verdict, class_):
     assert (passed, len(faults)) == ((1, 0) if right else (0, 1))
 
 
+# ---- what stands in several places
+
+TABLES = scripts.load("tables")
+PARTS = [(of, *part) for of, found in TABLES.TABLES.items() for part in found]
+
+
+@pytest.mark.parametrize("of, path, lines, name", PARTS, ids=[f"{it[1]} {it[3]}" for it in PARTS])
+def test_a_written_part_that_differs_is_told(of, path, lines, name, monkeypatch, capsys):
+    text_of, changed = building.text_of, TABLES.with_part(building.text_of(path), of, name, [*lines(), "planted"])
+    monkeypatch.setattr(TABLES.building, "text_of", lambda it: changed if it == path else text_of(it))
+    assert TABLES.main(["--check"]) == 1
+    assert f"{path}: its {name} aren't those of {of}.toml\n" in capsys.readouterr().out
+
+
+QUOTES = scripts.load("quotes")
+QUOTED = "c/examples/two_ends.c"
+
+
+@pytest.mark.parametrize("change, fault", [
+    (lambda lines: lines, None), (lambda lines: [f"  {it}" for it in lines], f"{QUOTED} has no such lines"),
+    (lambda lines: [*lines[:-1], "planted();"], f"{QUOTED} has no such lines"),
+    (lambda lines: [lines[1], lines[0], *lines[2:]], f"{QUOTED} has no such lines"),
+    (lambda lines: [""] * 3, "it is empty")])
+def test_a_block_that_is_quoted_wrong_is_told(change, fault):
+    lines = building.text_of(QUOTED).splitlines()[:5]
+    assert len(set(lines[:2])) == 2 and QUOTES.fault_of("c", QUOTED, change(lines)) == fault
+
+
+def test_a_block_of_no_file_is_told():
+    assert QUOTES.fault_of("c", "c/examples/none.c", ["int a;"]) == "no file of c/examples/: 'c/examples/none.c'"
+
+
+@pytest.mark.parametrize("line, faults", [
+    ("`tools/quotes --typed`", 0), ("`tools/quotes --planted`", 1), ("`tools/planted`", 1),
+    ("`c/library --core` and `c/library --planted --planned`", 2)])
+def test_a_command_that_is_not_there_is_told(line, faults, monkeypatch):
+    monkeypatch.setattr(QUOTES, "lines_of", lambda _: [line])
+    assert len(list(QUOTES.faults_of_commands("README.md"))) == faults
+
+
+@pytest.mark.parametrize("lines, faults", [
+    (["    krbrelay_sealer_free(&sealer);"], 1), (["```c x", "    krbrelay_sealer_free(&sealer);", "```"], 0)])
+def test_code_that_is_quoted_from_no_file_is_told(lines, faults, monkeypatch):
+    monkeypatch.setattr(QUOTES, "lines_of", lambda _: lines)
+    assert len(list(QUOTES.faults_of_code("docs/C.md"))) == faults
+
+
+def test_a_page_of_the_reference_that_differs_is_told():
+    tool, page = scripts.load("reference"), "docs/reference/headline.md"
+    files = {name: building.text_of(f"docs/reference/{name}")
+             for name in os.listdir(f"{building.TOP}/docs/reference")}
+    assert list(tool.stale(files)) == []
+    planted_page = {**files, "headline.md": files["headline.md"] + "planted"}
+    assert list(tool.stale(planted_page)) == [f"{page} isn't what tools/reference writes"]
+    without = {name: text for name, text in files.items() if name != "headline.md"}
+    assert list(tool.stale(without)) == [f"{page} isn't a page: tools/reference removes it"]
+
+
+# ---- costs
+
+@pytest.fixture
+def job_costs(monkeypatch):
+    """The tool over one small family of jobs."""
+    loaded = scripts.load("tests/job_costs")
+    for family in ("repeated", "of_many_senders", "with_room", "made_up", "small", "batches"):
+        monkeypatch.setattr(loaded, family, lambda *_: ())
+    many = loaded.many
+    monkeypatch.setattr(loaded, "many", lambda *_: many(3, 10))
+    return loaded
+
+
+@pytest.mark.parametrize("peak, ended, right", [
+    (lambda most: most, 0, True), (lambda most: most + 1, 0, False), (lambda most: most, 4, False),
+    (lambda most: 0, 0, False)])
+def test_a_job_over_its_bound_is_told(job_costs, monkeypatch, peak, ended, right):
+    base = 1_000_000
+
+    def seen(_program, it, least):
+        return job_costs.Run(ended, peak(base + it.bound()) if least else base, 0.0)
+    monkeypatch.setattr(job_costs, "seen", seen)
+    assert job_costs.check("planted") == (0 if right else 1)
+
+
+# ---- the control of the signatures
+
+FOUND = ["FAILED krbrelay_planted, in the module: i64, and in the header i32"]
+
+
+@pytest.mark.parametrize("found, before, expected, is_seen", [
+    (FOUND, [], "krbrelay_planted, in the module: ", True), (FOUND, FOUND, "krbrelay_planted, in the module: ", False),
+    (FOUND, [], "krbrelay_other, in the module: ", False), ([], [], "krbrelay_planted, in the module: ", False)])
+def test_a_plant_of_signatures_has_to_be_named(monkeypatch, found, before, expected, is_seen):
+    monkeypatch.setattr(signature_plants, "planted", lambda *_: None)
+    monkeypatch.setattr(signature_plants, "faults_of", lambda _: found)
+    plant = signature_plants.Plant("planted", "", "", "", "", expected)
+    assert (signature_plants.missing(None, plant, before) == "") == is_seen
+
+
+def test_a_comparison_of_signatures_that_breaks_off_has_seen_nothing(monkeypatch):
+    plant = signature_plants.Plant("planted", "no such file", "", "a", "b", "FAILED")
+    assert signature_plants.missing(Given({}, ""), plant, []).startswith("FileNotFoundError")
+
+
 # ---- the tools with a control of their own
 
 @pytest.mark.parametrize("name", OWN_CONTROLS)
@@ -251,6 +362,10 @@ def test_a_plant_around_a_call_is_c(name):
      "fn krb_carry::place::Place::take: not proved", "`returns-clause-moved`"),
     ("./proofs/place/Place/gone/Answers.antt:9:5: error: `returns-clause-moved`: the two types differ\n"
      "fn krb_carry::place::Place::take: not proved", ""),
+    ("note: src/place.rt:9:1: it is not proved that what the function ensures holds (`returns-clause-none`); more\n"
+     "fn krb_carry::place::Place::take: not proved", "`returns-clause-none`"),
+    ("note: src/place.rt:9:1: it is not proved that what the function ensures holds (`returns-clause-none`); more\n"
+     "fn krb_carry::place::Place::gone: not proved\nfn krb_carry::place::Place::take: not proved", ""),
     ("fn krb_carry::place::Place::take: proved", ""),
     ("src/place.rt is not in the layout\nrt: krb_carry NOT PROVED", ""),
     ("fn krb_carry::place::follow: no proof: it calls `krb_carry::place::Place::take`, which is not proved", "")])

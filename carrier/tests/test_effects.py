@@ -22,15 +22,29 @@ TEXTS = 1500
 TO_WAIT = 60            # seconds
 STATEMENT = ("sql:INSERT INTO mine (session, number, part, text, again) -- :none, of a comment\n"
              "VALUES (:session, :number, :part, :text, ':text' || :session);")
+# A shared object that does one thing by the store, and another one elsewhere: it writes the text down.
 OBJECT = """
 #include "effect.h"
+#include <stdio.h>
 #include <string.h>
+static int write_down(const struct arrived *it)
+{
+    FILE *file = fopen(WRITTEN, "a");
+    if (file == NULL)
+        return -1;
+    fprintf(file, "%s %llu %u ", it->session, (unsigned long long)it->number, it->part);
+    for (size_t i = 0; i < it->len; i++)
+        fprintf(file, "%02x", it->text[i]);
+    fprintf(file, "\\n");
+    return fclose(file) == 0 ? 0 : -1;
+}
 int take_effect(struct store *store, const struct arrived *it)
 {
     const struct value values[] = { { VALUE_TEXT, 0, it->session, strlen(it->session) },
                                     { VALUE_NUMBER, it->number, NULL, 0 }, { VALUE_NUMBER, it->part, NULL, 0 },
                                     { VALUE_BYTES, 0, it->text, it->len } };
-    return store_run(store, "INSERT INTO mine (session, number, part, text) VALUES ($1, $2, $3, $4)", values, 4);
+    return write_down(it) != 0 ? -1
+        : store_run(store, "INSERT INTO mine (session, number, part, text) VALUES ($1, $2, $3, $4)", values, 4);
 }
 """
 # A command that writes down each text before it answers; WORDS has what it answers to some of them.
@@ -156,6 +170,7 @@ def compiled(ends):
         file.write(OBJECT)
     made = f"{ends.folder}/mine.so"
     subprocess.run([*c_tools.c_compiler(), "-shared", "-fPIC", f"-I{SOURCES}", f"-I{ends.prefix}/include",
+                    f'-DWRITTEN="{ends.folder}/written"',
                     f"{ends.folder}/mine.c", "-o", made], check=True)
     return f"object:{made}"
 
@@ -180,17 +195,24 @@ def test_within_the_transaction_each_happens_once(ends, of_object, batch):
     assert {row[2] for row in rows} == {None if of_object else ":texttom"}
     places = ends.run("store", "SELECT number, part FROM mine ORDER BY id")
     assert places == sorted(set(places)) and max(it[1] for it in places) == int(batch) - 1
+    if of_object:
+        assert_at_least_once_and_in_order(ends, given)
+
+
+def assert_at_least_once_and_in_order(ends, given):
+    """What was written down of each text."""
+    written = [it for it in ends.written() if len(it) == 4]
+    assert [bytes.fromhex(it) for it in dict.fromkeys(it[3] for it in written)] == given
+    # What comes again is what wasn't committed: it begins again at an earlier place, and goes on from there.
+    places = [int(it[1]) for it in written]
+    assert all(after <= before + 1 for before, after in zip(places, places[1:]))
 
 
 def test_a_command_is_given_each_at_least_once_and_in_order(ends):
     ends.put(texts(1500))
     rounds = ends.killed_over_and_over("--effect", ends.command())
-    written = ends.written()
-    found = list(dict.fromkeys(it[3] for it in written if len(it) == 4))
-    assert [bytes.fromhex(it) for it in found] == texts(1500) and rounds >= 8
-    # What comes again is what wasn't committed: it begins again at an earlier place, and goes on from there.
-    places = [int(it[1]) for it in written if len(it) == 4]
-    assert all(after <= before + 1 for before, after in zip(places, places[1:]))
+    assert_at_least_once_and_in_order(ends, texts(1500))
+    assert rounds >= 8
 
 
 # ---- what is refused

@@ -1,6 +1,6 @@
-/* Preloaded: how often threads other than the first wait for at most some time, and the longest time that
- * they ask for, in microseconds. At the end both are written to the file that NAPS_TO names. The first
- * thread pauses for the microseconds that NAPS_PAUSE gives, after each of its waits. */
+/* Preloaded: how often threads other than the first wait for at most some time, the longest time that they ask
+ * for, in microseconds, and how often they give way to other threads. At the end these are written to the file
+ * that NAPS_TO names. The first thread pauses for the microseconds that NAPS_PAUSE gives, after each of its waits. */
 #define _GNU_SOURCE
 #include <dlfcn.h>
 #include <linux/futex.h>
@@ -14,7 +14,7 @@
 
 enum { WORDS = 6, OPERATION = 1, TIMEOUT = 3, EVER = 1000000000 /* seconds */ };
 
-static atomic_ulong naps, longest;
+static atomic_ulong naps, longest, yields;
 
 static unsigned long microseconds(const struct timespec *at)
 {
@@ -71,6 +71,7 @@ long syscall(long number, ...)
 /* A look gives way to nobody, so that naps begin soon on a busy machine too. */
 int sched_yield(void)
 {
+    yields += gettid() != getpid();
     return 0;
 }
 
@@ -80,7 +81,7 @@ void _exit(int status)
     const char *path = getenv("NAPS_TO");
     FILE *file = path != NULL ? fopen(path, "w") : NULL;
     if (file != NULL) {
-        fprintf(file, "%lu %lu\n", (unsigned long)naps, (unsigned long)longest);
+        fprintf(file, "%lu %lu %lu\n", (unsigned long)naps, (unsigned long)longest, (unsigned long)yields);
         fclose(file);
     }
     for (;;) /* by the system's call itself: the one above needs what is dying */

@@ -130,4 +130,5 @@ def compare(count: report.Count, given: Given) -> None:
     compare_structs(count, given, has)
     python_types.compare(count, given, has)
     compare_versions(count, given, has)
-    enums.compare(count, given.library, has.enums)
+    if given.library:
+        enums.compare(count, given.library, has.enums)

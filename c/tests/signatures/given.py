@@ -24,7 +24,8 @@ def paths() -> List[str]:
 
 @dataclasses.dataclass(frozen=True)
 class Given:
-    """`texts` has the module's text, and what is read in place of a file of the repository."""
+    """`texts` has the module's text, and what is read in place of a file of the repository. `library` is "" if it
+    is for another machine."""
     texts: Dict[str, str]
     library: str
 

@@ -20,7 +20,7 @@ STANDARD = {
 # What a type of LLVM's may be, and what is said of it that a caller has to know.
 LOWERED = re.compile(r"\{[^}]*\}|\[[^\]]*\]|<[^>]*>|\.\.\."
                      r"|\b(?:ptr|void|i\d+|float|double|zeroext|signext|byval|sret|inreg)\b")
-ATTRIBUTE = re.compile(r"\b(\w+)\([^()]*\)")
+ATTRIBUTE = re.compile(r"\b(\w+)\((?:[^()]|\([^()]*\))*\)")     # as range(i32 0, 9), initializes((0, 16))
 
 
 class NotRead(Exception):

@@ -40,12 +40,12 @@ PLANTS = [
     Plant("a length of 32 bits in the module", MODULE, define("krbrelay_sealer_frame_size"),
           "i64 noundef %a1", "i32 noundef %a1", "krbrelay_sealer_frame_size, in the module: "),
     Plant("an answer of 8 bits in the module", MODULE, define("krbrelay_window_take"),
-          "define noundef i32", "define noundef i8", "krbrelay_window_take, in the module: "),
+          "i32 @krbrelay_window_take(", "i8 @krbrelay_window_take(", "krbrelay_window_take, in the module: "),
     Plant("an extension in the module", MODULE, define("krbrelay_sealer_set_mode"),
           "i32 noundef %a1", "i32 noundef signext %a1",
           "krbrelay_sealer_set_mode, in the module: "),
     Plant("a struct by value in the module", MODULE, define("krbrelay_peer_free"),
-          "ptr noundef %a0", "ptr noundef byval([2 x i64]) align 8 %a0",
+          "%a0", "byval([2 x i64]) align 8 %a0",
           "krbrelay_peer_free, in the module: "),
     Plant("a function gone from the module", MODULE, define("krbrelay_window_new"),
           "@krbrelay_window_new(", "@window_new(", "exports of module and source: "),
@@ -217,8 +217,8 @@ def missing(given: Given, plant: Plant, before: List[str]) -> str:
 
 
 def control(count: report.Count, given: Given) -> None:
-    """Each plant is seen, by the line that names what it changed."""
+    """Each plant is seen, by the line that names what it changed. Those of enums are of the library's calls."""
     before = faults_of(given)
-    for plant in PLANTS:
+    for plant in PLANTS if given.library else [it for it in PLANTS if not it.expected.startswith("enum")]:
         why = missing(given, plant, before)
         count.right(not why, f"FAILED control: {plant.name}: {why}")

@@ -76,14 +76,20 @@ def is_proved_for(level, said):
 def fetch(crate, architecture, folder):
     """Has module and words in `folder`: those that were kept when the crate was proved, or what the
     prover gives once more."""
-    if architecture == OWN and kit_compiler.is_kept(crate):
+    other = "" if architecture == OWN else architecture.name
+    if kit_compiler.is_kept(crate, other):
         for name in (kit_compiler.MODULE, kit_compiler.WORDS):
-            shutil.copy(os.path.join(kit_compiler.place_of(crate), name), folder)
+            shutil.copy(os.path.join(kit_compiler.place_of(crate, other), name), folder)
         return
     built_from = building.digest_of(crate)
     prove_and_keep(crate, architecture, folder)
-    if architecture == OWN:
-        kit_compiler.keep(crate, folder, built_from)
+    kit_compiler.keep(crate, folder, built_from, other)
+
+
+def forget(crate):
+    """Has the prover asked again for each architecture."""
+    for it in ARCHITECTURES[crate]:
+        kit_compiler.forget(crate, "" if it == OWN else it.name)
 
 
 def compiler_words(folder):

@@ -4,6 +4,7 @@ The prover gives its compiler a module of LLVM's, and has it write an object. It
 tools: in one of links to the kit's, a compiler stands that keeps the module and the words that it
 was given, and then does what the kit's does. The kit stays as it is.
 """
+import contextlib
 import os
 import shutil
 
@@ -47,30 +48,38 @@ def keeping(folder):
 
 # ---- what was kept of a crate
 
-def place_of(crate):
-    return os.path.join(building.folder_of(crate), "out", "kept")
+def place_of(crate, other=""):
+    """Where it is kept, of the kit's own processor or of another one."""
+    return os.path.join(building.folder_of(crate), "out", "kept", other)
 
 
-def stamp_of(crate):
-    return os.path.join(place_of(crate), "built_from")
+def stamp_of(crate, other=""):
+    return os.path.join(place_of(crate, other), "built_from")
 
 
-def keep(crate, folder, built_from):
+def keep(crate, folder, built_from, other=""):
     """Copies what was kept in a folder to its place, with the digest of what it was built from. If
     the prover called no compiler, nothing is kept: whoever wants a module asks the prover again."""
-    shutil.rmtree(place_of(crate), ignore_errors=True)
+    forget(crate, other)
     if not os.path.exists(os.path.join(folder, MODULE)):
         return
-    os.makedirs(place_of(crate))
+    os.makedirs(place_of(crate, other), exist_ok=True)
     for name in (MODULE, WORDS):
-        shutil.copy(os.path.join(folder, name), place_of(crate))
-    with open(stamp_of(crate), "w", encoding="utf-8") as file:
+        shutil.copy(os.path.join(folder, name), place_of(crate, other))
+    with open(stamp_of(crate, other), "w", encoding="utf-8") as file:
         file.write(built_from)
 
 
-def is_kept(crate):
+def forget(crate, other=""):
+    """Removes what was kept, so that the prover is asked again."""
+    for name in (MODULE, WORDS, "built_from"):
+        with contextlib.suppress(FileNotFoundError):
+            os.remove(os.path.join(place_of(crate, other), name))
+
+
+def is_kept(crate, other=""):
     """Whether what is kept was given for the present sources."""
-    if not os.path.exists(stamp_of(crate)):
+    if not os.path.exists(stamp_of(crate, other)):
         return False
-    with open(stamp_of(crate), encoding="utf-8") as file:
+    with open(stamp_of(crate, other), encoding="utf-8") as file:
         return file.read() == building.digest_of(crate)

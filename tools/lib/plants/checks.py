@@ -131,10 +131,15 @@ def package(copy: Copy, room: str) -> Told:
 
 # ---- tools, and the prover
 
+# Whether plants apply says nothing in a copy that has one.
+OF_PLANTS = "tests/test_tools.py::test_a_plant_applies_and_names_checks"
+
+
 def tool(copy: Copy, what: str) -> Told:
-    return copy.run({"self": ["pytest", "-q", "-x", "tests/test_tools.py"],
+    return copy.run({"self": ["pytest", "-q", "-x", "--deselect", OF_PLANTS, "tests/test_tools.py"],
                      "tables": ["pytest", "-q", "-x", "tests/test_tables.py"],
-                     "test_building": ["tools/test_building"],
+                     "verdicts": ["pytest", "-q", "-x", "-k", "verdict", "tests/test_release.py"],
+                     "test_building": ["tools/test_building"], "test_parts": ["tools/test_parts"],
                      "conformance": ["conformance/test", "--quick"]}[what], cwd=copy.top)
 
 
@@ -150,14 +155,15 @@ def sweep(copy: Copy, name: str) -> Told:
 
 def goals_of(said: str, crate: str, function: str) -> str:
     """The goals of a function for which the prover found no proof, or takes the answer no more that is
-    written for it, as it names them."""
+    written for it, as it names them: in the function's line, in those of its answers, or in notes above its line."""
     own = rf"^fn {crate}::(?:\w+::)*?{function}: (?:no proof: .* did not prove (.*)|not proved.*)$"
     found = re.search(own, said, re.M)
     if not found or found[1]:
         return found[1].strip() if found else ""
     place = function.replace("::", "/")
     wrong = re.findall(rf"^\./proofs/(?:\w+/)*{place}/\w+\.antt:[\d:]+ error: (`[\w+-]+`)", said, re.M)
-    return ", ".join(dict.fromkeys(wrong))
+    above = re.split(r"^(?:fn|struct|enum|impl|const|trait) .*$", said[:found.start()], flags=re.M)[-1]
+    return ", ".join(dict.fromkeys(wrong + re.findall(r"^note: src/.*? is not proved .*?\((`[\w+-]+`)\)", above, re.M)))
 
 
 def prover(copy: Copy, name: str, function: str) -> Told:

@@ -32,7 +32,7 @@ CSS = """\
 * { box-sizing: border-box; }
 body { margin: 0; display: grid; grid-template-columns: 17rem minmax(0, 1fr); color: var(--ink);
   background: var(--page); font: 16px/1.5 "DejaVu Sans", "Segoe UI", sans-serif; }
-nav { position: sticky; top: 0; height: 100vh; overflow-y: auto; padding: 1.2rem;
+nav { position: sticky; top: 0; height: 100vh; overflow-y: auto; overflow-wrap: anywhere; padding: 1.2rem;
   border-right: 1px solid var(--line); font-size: 0.85rem; }
 nav ul { list-style: none; margin: 0 0 1rem; padding: 0; }
 nav li.under { padding-left: 1rem; }
@@ -71,7 +71,7 @@ table { border-collapse: collapse; width: 100%; font-size: 0.9rem; }
 th, td { text-align: left; vertical-align: top; padding: 0.3rem 0.6rem;
   border-bottom: 1px solid var(--line); overflow-wrap: break-word; }
 td:last-child, th:last-child { text-align: right; }
-th:nth-child(3):not(:last-child) { min-width: 8.5rem; }
+th:nth-child(3):not(:last-child) { min-width: 12rem; }
 @media (max-width: 50rem) {
   body { display: block; }
   main { padding: 1rem 1rem 4rem; }

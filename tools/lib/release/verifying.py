@@ -9,7 +9,7 @@ import tempfile
 import zipfile
 
 from lib import scripts
-from lib.build import building, ci
+from lib.build import assembly, building, ci
 from lib.release import making, statement
 from lib.release.statement import PROVED, SUMS, bytes_of, files_of, sha256
 
@@ -154,6 +154,8 @@ def of_proofs(told):
 def made_again(folder):
     """The artefacts that come out otherwise when they are made again, with assembly that the kit writes anew."""
     shutil.rmtree(scripts.load("c/dist").OUT, ignore_errors=True)
+    for crate in assembly.ARCHITECTURES:
+        assembly.forget(crate)
     with tempfile.TemporaryDirectory() as room:
         place = os.path.join(room, "again")
         making.make(place)
