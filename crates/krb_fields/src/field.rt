@@ -10,7 +10,7 @@ pub enum Field {
     Mode,
     /// 2: the sender's address is too long, or one is given where none is demanded.
     Sender,
-    /// 3: the receiver's address is too long, or one is given where none is told or demanded.
+    /// 3: the receiver's address is too long, or one is given that the messages don't have or nobody demands.
     Receiver,
     /// 4: not zeros.
     Reserved,
