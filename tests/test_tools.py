@@ -11,7 +11,7 @@ import sys
 
 import pytest
 
-from lib import parts, report, scripts
+from lib import parts, report, scripts, typed
 from lib.build import assembly, building, c_tools
 from lib.plants import checks, planted, wrapped
 from signatures import plants as signature_plants
@@ -269,6 +269,14 @@ def test_a_command_that_is_not_there_is_told(line, faults, monkeypatch):
 def test_code_that_is_quoted_from_no_file_is_told(lines, faults, monkeypatch):
     monkeypatch.setattr(QUOTES, "lines_of", lambda _: lines)
     assert len(list(QUOTES.faults_of_code("docs/C.md"))) == faults
+
+
+@pytest.mark.parametrize("command, printed", [
+    ("echo one; echo two", "one\ntwo\n"), ("echo one && sleep 50 &", ""), ("sleep 50 &", "")])
+def test_a_typed_command_that_goes_on_is_not_waited_for(command, printed):
+    done = subprocess.run(typed.words(command), check=True, stdin=subprocess.DEVNULL, stdout=subprocess.PIPE, text=True,
+                          timeout=20)
+    assert done.stdout == printed
 
 
 def test_a_page_of_the_reference_that_differs_is_told():

@@ -110,6 +110,27 @@ static void empty_handles(void)
     krbrelay_opener_wipe(&o);
 }
 
+/* Where the processor isn't supported, each call of a sender's end says so. */
+static void sending_is_refused(struct krbrelay_sending *sending)
+{
+    static const struct krbrelay_receipt receipt;
+    static const struct krbrelay_head head;
+    static const struct krbrelay_opening opening;
+    static const uint8_t own[KRBRELAY_HISTORY_SIZE];
+    struct krbrelay_command command;
+    uint64_t under_way = 0, room = 0;
+    uint32_t told = 0, stands = 0;
+    CHECK(krbrelay_sending_load(sending, 3, 0, 0, 0, 1, 0) == KRBRELAY_PROCESSOR);
+    CHECK(krbrelay_sending_sealed(sending, 1) == KRBRELAY_PROCESSOR);
+    CHECK(krbrelay_sending_confirmed(sending, 0, 1, 0, &told) == KRBRELAY_PROCESSOR);
+    CHECK(krbrelay_sending_listed(sending, 1, &told) == KRBRELAY_PROCESSOR);
+    CHECK(krbrelay_sending_reconnected(sending) == KRBRELAY_PROCESSOR);
+    CHECK(krbrelay_sending_receipt(sending, &receipt, own, 0, &told) == KRBRELAY_PROCESSOR);
+    CHECK(krbrelay_sending_serve(sending, 8, 0, &command) == KRBRELAY_PROCESSOR);
+    CHECK(krbrelay_sending_state(sending, &under_way, &room, &told, &stands) == KRBRELAY_PROCESSOR);
+    CHECK(krbrelay_judge(&head, &opening, &told) == KRBRELAY_PROCESSOR);
+}
+
 /* The ends of a carrier: one call of each kind. */
 static void ends(void)
 {
@@ -119,8 +140,12 @@ static void ends(void)
     struct krbrelay_queue queue = KRBRELAY_INIT;
     struct krbrelay_pause pause;
     uint32_t told = 0;
-    CHECK(krbrelay_sending_load(&sending, 3, 0, 0, 0, 1, 0) == KRBRELAY_OK);
-    CHECK(krbrelay_sending_serve(&sending, 8, 0, &command) == KRBRELAY_OK && command.count == 3);
+    if (krbrelay_is_supported()) {
+        CHECK(krbrelay_sending_load(&sending, 3, 0, 0, 0, 1, 0) == KRBRELAY_OK);
+        CHECK(krbrelay_sending_serve(&sending, 8, 0, &command) == KRBRELAY_OK && command.count == 3);
+    } else {
+        sending_is_refused(&sending);
+    }
     krbrelay_reading_load(&reading, 1, 0);
     CHECK(krbrelay_reading_frames(&reading, 1, 3, 3, &told) == KRBRELAY_OK && told == KRBRELAY_READ_TAKE);
     krbrelay_pause_begin(&pause, 7, 0);

@@ -1,6 +1,6 @@
 /* The proved code of x86-64 is compiled for x86-64-v2, and a second time for x86-64-v3, where this file is
  * compiled with KRBRELAY_X86_64_V3. This file itself is compiled for any x86-64, and so asks before that
- * code runs: a handle is made, and a message read, on no other processor. */
+ * code runs: a handle is made, a message read, and a sender's end moved, on no other processor. */
 #include "proved.h"
 
 #if defined(__x86_64__) && defined(KRBRELAY_X86_64_V3)
@@ -115,4 +115,78 @@ enum krbrelay_answer krbrelay_history_add(uint8_t history[KRBRELAY_HISTORY_SIZE]
     if (!krbrelay_is_supported())
         return KRBRELAY_PROCESSOR;
     return krbrelay_proved_history_add(history, frame, len);
+}
+
+enum krbrelay_answer krbrelay_sending_load(struct krbrelay_sending *sending, uint64_t next,
+                                           uint64_t carried, uint64_t at, uint64_t done,
+                                           uint64_t list, uint64_t now)
+{
+    if (!krbrelay_is_supported())
+        return KRBRELAY_PROCESSOR;
+    return krbrelay_proved_sending_load(sending, next, carried, at, done, list, now);
+}
+
+enum krbrelay_answer krbrelay_sending_sealed(struct krbrelay_sending *sending, uint64_t count)
+{
+    if (!krbrelay_is_supported())
+        return KRBRELAY_PROCESSOR;
+    return krbrelay_proved_sending_sealed(sending, count);
+}
+
+enum krbrelay_answer krbrelay_sending_confirmed(struct krbrelay_sending *sending, uint64_t number,
+                                                uint64_t offset, uint64_t now, uint32_t *counts)
+{
+    if (!krbrelay_is_supported())
+        return KRBRELAY_PROCESSOR;
+    return krbrelay_proved_sending_confirmed(sending, number, offset, now, counts);
+}
+
+enum krbrelay_answer krbrelay_sending_listed(struct krbrelay_sending *sending, uint64_t list,
+                                             uint32_t *other)
+{
+    if (!krbrelay_is_supported())
+        return KRBRELAY_PROCESSOR;
+    return krbrelay_proved_sending_listed(sending, list, other);
+}
+
+enum krbrelay_answer krbrelay_sending_reconnected(struct krbrelay_sending *sending)
+{
+    if (!krbrelay_is_supported())
+        return KRBRELAY_PROCESSOR;
+    return krbrelay_proved_sending_reconnected(sending);
+}
+
+enum krbrelay_answer krbrelay_sending_receipt(struct krbrelay_sending *sending,
+                                              const struct krbrelay_receipt *receipt,
+                                              const uint8_t own[KRBRELAY_HISTORY_SIZE],
+                                              uint64_t now, uint32_t *heard)
+{
+    if (!krbrelay_is_supported())
+        return KRBRELAY_PROCESSOR;
+    return krbrelay_proved_sending_receipt(sending, receipt, own, now, heard);
+}
+
+enum krbrelay_answer krbrelay_sending_serve(struct krbrelay_sending *sending, uint64_t room,
+                                            uint64_t now, struct krbrelay_command *command)
+{
+    if (!krbrelay_is_supported())
+        return KRBRELAY_PROCESSOR;
+    return krbrelay_proved_sending_serve(sending, room, now, command);
+}
+
+enum krbrelay_answer krbrelay_sending_state(const struct krbrelay_sending *sending,
+                                            uint64_t *under_way, uint64_t *room, uint32_t *settled,
+                                            uint32_t *stands)
+{
+    if (!krbrelay_is_supported())
+        return KRBRELAY_PROCESSOR;
+    return krbrelay_proved_sending_state(sending, under_way, room, settled, stands);
+}
+
+enum krbrelay_answer krbrelay_judge(const struct krbrelay_head *head,
+                                    const struct krbrelay_opening *opening, uint32_t *judged)
+{
+    if (!krbrelay_is_supported())
+        return KRBRELAY_PROCESSOR;
+    return krbrelay_proved_judge(head, opening, judged);
 }

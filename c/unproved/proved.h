@@ -29,6 +29,29 @@ enum krbrelay_answer krbrelay_proved_message_header(const uint8_t *frame, size_t
                                                     struct krbrelay_header *header);
 enum krbrelay_answer krbrelay_proved_history_add(uint8_t history[KRBRELAY_HISTORY_SIZE],
                                                  const uint8_t *frame, size_t len);
+enum krbrelay_answer krbrelay_proved_sending_load(struct krbrelay_sending *sending, uint64_t next,
+                                                  uint64_t carried, uint64_t at, uint64_t done,
+                                                  uint64_t list, uint64_t now);
+enum krbrelay_answer krbrelay_proved_sending_sealed(struct krbrelay_sending *sending,
+                                                    uint64_t count);
+enum krbrelay_answer krbrelay_proved_sending_confirmed(struct krbrelay_sending *sending,
+                                                       uint64_t number, uint64_t offset,
+                                                       uint64_t now, uint32_t *counts);
+enum krbrelay_answer krbrelay_proved_sending_listed(struct krbrelay_sending *sending, uint64_t list,
+                                                    uint32_t *other);
+enum krbrelay_answer krbrelay_proved_sending_reconnected(struct krbrelay_sending *sending);
+enum krbrelay_answer krbrelay_proved_sending_receipt(struct krbrelay_sending *sending,
+                                                     const struct krbrelay_receipt *receipt,
+                                                     const uint8_t own[KRBRELAY_HISTORY_SIZE],
+                                                     uint64_t now, uint32_t *heard);
+enum krbrelay_answer krbrelay_proved_sending_serve(struct krbrelay_sending *sending, uint64_t room,
+                                                   uint64_t now, struct krbrelay_command *command);
+enum krbrelay_answer krbrelay_proved_sending_state(const struct krbrelay_sending *sending,
+                                                   uint64_t *under_way, uint64_t *room,
+                                                   uint32_t *settled, uint32_t *stands);
+enum krbrelay_answer krbrelay_proved_judge(const struct krbrelay_head *head,
+                                           const struct krbrelay_opening *opening,
+                                           uint32_t *judged);
 enum krbrelay_answer krbrelay_proved_answer_name(uint32_t answer, char *name, size_t room,
                                                  size_t *size);
 enum krbrelay_answer krbrelay_proved_answer_text(uint32_t answer, char *text, size_t room,

@@ -144,7 +144,7 @@ class TheHeader(unittest.TestCase):
         "progress_rewind", "place_take", "place_read_again")}
 
     def test_calls(self):
-        declared = set(re.findall(r"^(?:enum \w+|\w+) (krbrelay_\w+)\(", self.text, re.M))
+        declared = set(re.findall(r"^(?:enum \w+ |\w+ |const char \*)(krbrelay_\w+)\(", self.text, re.M))
         self.assertEqual(declared - set(library.CALLS), self.UNUSED)
         self.assertEqual(set(library.CALLS) - declared, set())
 

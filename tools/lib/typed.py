@@ -6,10 +6,12 @@ of `..` alone for any number of lines.
 """
 import dataclasses
 import re
+import shlex
 
 from lib.build import building
 
 INDENT = "    "
+GOES_ON = 60        # seconds after which a command is ended that goes on while others are typed
 
 
 @dataclasses.dataclass
@@ -56,5 +58,8 @@ def are_printed(wanted, got):
 
 
 def words(command):
-    """The words that run a command as a shell does, whose output goes to a terminal: in lines."""
+    """The words that run a command as a shell does, whose output goes to a terminal: in lines. One with & at its end
+    goes on for a while, and what it prints is left out, so that nobody waits for its end."""
+    if command.endswith("&"):
+        command = f"timeout {GOES_ON} sh -c {shlex.quote(command[:-1].strip())} > /dev/null 2>&1 &"
     return ["stdbuf", "-oL", "sh", "-c", command]

@@ -30,7 +30,7 @@ exec {clang} "$@"
 """
 EXPORT = re.compile(r'#\[unsafe\(no_mangle\)\]\npub extern "C" fn (\w+)\((.*?)\)(?: -> \w+)?\n', re.S)
 ANY = "fn any<T>() -> T {\n    loop {}\n}\n"
-SECONDS = 300
+SECONDS = 600       # on a busy machine
 WORDS = ["-march=x86-64-v2", "--no-default-config", "-c", "-O3", "-ffunction-sections", "-fdata-sections"]
 CHECKS = re.compile(r'(?m)^  call void @"rattle-llvm-checks::\w+"\(.*\n')
 # Of each variable: `rt try` fills it, so that what isn't written is seen.
@@ -72,10 +72,13 @@ def links_to_kit(folder):
 def module_of(top, crate, folder, *words):
     """The text of the module of a crate with a `main`, or with tests, in a copy of the repository at `top`."""
     place = links_to_kit(folder)
-    tried = subprocess.run([os.path.join(place, "bin", "rt"), "try", *words, "--steps", "1", "--seconds", "1"],
-                           cwd=os.path.join(top, "crates", crate), stdin=subprocess.DEVNULL,
-                           capture_output=True, text=True, check=False, timeout=SECONDS,
-                           env={**os.environ, "TMPDIR": folder})
+    try:
+        tried = subprocess.run([os.path.join(place, "bin", "rt"), "try", *words, "--steps", "1", "--seconds", "1"],
+                               cwd=os.path.join(top, "crates", crate), stdin=subprocess.DEVNULL,
+                               capture_output=True, text=True, check=False, timeout=SECONDS,
+                               env={**os.environ, "TMPDIR": folder})
+    except subprocess.TimeoutExpired as fault:
+        raise NotCompiled(f"rt try {crate}: not at its end after {SECONDS} seconds") from fault
     module, text = os.path.join(folder, "module"), os.path.join(folder, "module.ll")
     if not os.path.exists(module):
         raise NotCompiled(f"rt try {crate}: {(tried.stdout + tried.stderr)[-2000:]}")
