@@ -8,6 +8,8 @@
 #include <stdlib.h>
 #include <string.h>
 
+#define QUIET UINT64_C(5000000000) /* nanoseconds */
+
 /* ---- A frame that is refused */
 
 /* The opener of a session, made when it is first needed. */
@@ -430,7 +432,8 @@ static int fetch(struct shard *s, int milliseconds)
         s->is_loaded = 0;
     if (count <= 0)
         return 0;
-    s->counts.fetching += nanoseconds() - began;
+    s->looked = nanoseconds();
+    s->counts.fetching += s->looked - began;
     s->counts.frames += (unsigned long)count;
     last = s->frames[count - 1].offset;
     if (krbrelay_reading_frames(reading, reading->read.list, last, last - reading->read.offset, &read)
@@ -441,6 +444,19 @@ static int fetch(struct shard *s, int milliseconds)
     return count;
 }
 
+/* Nothing has come for a while: whether the list is still the one that is read, and wasn't cut off, as where nodes
+ * have lost what they had. Else it is loaded again, and read from where krb_engine says. */
+static void look_at_list(struct shard *s)
+{
+    struct krbrelay_reading now = s->reading;
+    uint64_t list = 0, end = 0;
+    uint32_t read = KRBRELAY_READ_NOTHING;
+    s->looked = nanoseconds();
+    if (carrier_incarnation(s->carrier, s->number, &list, &end) == 0 && list != 0
+        && krbrelay_reading_frames(&now, list, end, 0, &read) == KRBRELAY_OK && read == KRBRELAY_READ_ELSEWHERE)
+        s->is_loaded = 0;
+}
+
 int shard_step(struct shard *s, int milliseconds)
 {
     int count, answer = be_loaded(s, milliseconds);
@@ -448,6 +464,8 @@ int shard_step(struct shard *s, int milliseconds)
         return answer;
     shard_pay(s);
     count = fetch(s, milliseconds);
+    if (count == 0 && s->is_loaded && nanoseconds() - s->looked > QUIET)
+        look_at_list(s);
     if (count == 0)
         return 0;
     answer = take_all(s, count);

@@ -95,7 +95,8 @@ struct shard {
     int has_wrapped;               /* keys that are stored are wrapped under the newest one */
     struct receivings news;        /* those whose openings this transaction takes */
     char unknown[CARRIER_NAME];    /* the last name that the store was asked for in vain */
-    uint64_t answered;             /* when the carrier answered last */
+    uint64_t answered;             /* when the carrier answered last, */
+    uint64_t looked;               /* when a frame came last, or the list was looked at */
     unsigned long turn;            /* so often it was loaded */
     int is_loaded;
     size_t open;                   /* if it is asked for, so many sessions aren't closed */

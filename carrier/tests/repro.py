@@ -535,6 +535,18 @@ def rewrite(place, rows):
     file.close()
 
 
+def list_cut_off(place):
+    """The last frames are lost below a receiver that has read them, and others get their offsets."""
+    start_both(place, 20)
+    place.require(place.wait(lambda: not place.count("outbox", "frame"), 5), "no receipt")
+    with sqlite3.connect(f"{place.folder}/carrier.db", timeout=errors.LIMIT) as file:
+        file.execute("DELETE FROM carried WHERE offset > 10")
+        file.execute("UPDATE sqlite_sequence SET seq = 10 WHERE name = 'carried'")
+    file.close()
+    place.put(texts("ann", 20, 22))
+    place.await_delivered()
+
+
 def carrier_replaced(place):
     place.put(texts("ann", 0, 5000))
     place.run("sender", "--drain")
@@ -1344,6 +1356,7 @@ CASES = (
     Case(unstable_offsets, "other frames stand at the offsets than a reader was given",
          {"ann": 10}, 30),
     Case(unstable_end, "the same of the last frames of a session", {"ann": 10}, 30, (ANN,)),
+    Case(list_cut_off, "the last frames are lost below a receiver that has read them", {"ann": 22}, 20, (ANN,)),
     Case(carrier_replaced, "the carrier's file is replaced by an empty one", {"ann": 5010}, 15),
     Case(nats_stream_replaced, "the stream is deleted after all was delivered", {"ann": 5010}, 20,
          nats=""),

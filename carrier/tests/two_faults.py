@@ -400,7 +400,7 @@ def require_true_receipts(world, names, found, faults):
 
 
 def judge_restored_outbox(world, _, faults):
-    """The sessions of s0 are stopped; what was put in since waits."""
+    """The sessions of s0 are stopped; what was put in since is kept, whether it was sealed or not."""
     world.await_quiet(SETTLED, QUIET)
     found, stopped = world.effects(), open_sessions(world)
     if stopped != world.names_of("s0"):
@@ -408,8 +408,10 @@ def judge_restored_outbox(world, _, faults):
     require_told(world, stopped, "stopped since", faults)
     require_prefixes(world, found, faults)
     require_true_receipts(world, stopped, found, faults)
-    if any(world.sending(name).texts == 0 for name in stopped):
-        faults.append("texts of a stopped session left its outbox")
+    for name in stopped:
+        missing, it = len(world.sent[name]) - len(found[name]), world.sending(name)
+        if missing > it.texts + it.sealed - it.kept:
+            faults.append(f"{name}: {missing} texts are missing, of which its outbox has {it}")
     return f"{len(stopped)} sessions are stopped"
 
 
