@@ -78,8 +78,9 @@ static void empty_handles(void)
     struct krbrelay_peer p = KRBRELAY_INIT;
     struct krbrelay_moment at = moment(SECS, USEC);
     struct krbrelay_carried carried;
+    const struct krbrelay_unsealed message = { .user_data = key, .user_data_len = 3, .at = at };
     uint8_t in_place[sizeof priv_17];
-    size_t size = 99;
+    size_t size = 99, sizes[KRBRELAY_MOST_MESSAGES], failed = 99;
     uint64_t number = 99;
     uint32_t kind = 99;
     memcpy(in_place, priv_17, sizeof in_place);
@@ -105,7 +106,8 @@ static void empty_handles(void)
           == KRBRELAY_EMPTY);
     CHECK(krbrelay_peer_state(&p, &number, &number) == KRBRELAY_EMPTY);
     CHECK(krbrelay_peer_export(&p, text) == KRBRELAY_EMPTY);
-    CHECK(size == 99 && number == 99 && kind == 99);
+    CHECK(krbrelay_sealer_seal_many(&s, &message, 1, frame, sizeof frame, sizes, &failed) == KRBRELAY_EMPTY);
+    CHECK(size == 99 && number == 99 && kind == 99 && failed == 99);
     krbrelay_sealer_wipe(&s);
     krbrelay_opener_wipe(&o);
 }
@@ -155,6 +157,24 @@ static void ends(void)
     krbrelay_queue_free(&queue);
 }
 
+/* Which field of a struct is wrong. */
+static void fields(void)
+{
+    struct krbrelay_session session = session_of(KRBRELAY_PRIV, 7);
+    struct krbrelay_expect expect = expect_of(KRBRELAY_PRIV);
+    struct krbrelay_demand demand = demand_of(255, 1, 0);
+    CHECK(krbrelay_check_session(&session) == KRBRELAY_FIELD_NONE);
+    CHECK(krbrelay_check_expect(&expect) == KRBRELAY_FIELD_NONE);
+    CHECK(krbrelay_check_demand(&demand) == KRBRELAY_FIELD_NONE);
+    CHECK(krbrelay_check_peer_demand(&demand) == KRBRELAY_FIELD_NONE);
+    session.reserved[4] = expect.reserved[3] = demand.reserved[3] = 1;
+    CHECK(krbrelay_check_session(&session) == KRBRELAY_FIELD_RESERVED);
+    CHECK(krbrelay_check_expect(&expect) == KRBRELAY_FIELD_RESERVED);
+    CHECK(krbrelay_check_demand(&demand) == KRBRELAY_FIELD_RESERVED);
+    CHECK(krbrelay_check_peer_demand(&demand) == KRBRELAY_FIELD_RESERVED);
+    CHECK(strcmp(krbrelay_field_name(KRBRELAY_FIELD_RESERVED), "reserved") == 0);
+}
+
 /* The calls that take no handle. */
 static void others(void)
 {
@@ -183,6 +203,7 @@ static void others(void)
     CHECK(krbrelay_progress_rewind(&progress, &again) == KRBRELAY_OK && again == 1);
     CHECK(krbrelay_place_take(&place, 1, &taken, &outcome) == KRBRELAY_OK && place.at == 1);
     CHECK(krbrelay_place_read_again(&place) == KRBRELAY_OK);
+    fields();
     ends();
     krbrelay_clear_stack();
 }
