@@ -235,7 +235,7 @@ def test_a_written_part_that_differs_is_told(of, path, lines, name, monkeypatch,
     text_of, changed = building.text_of, TABLES.with_part(building.text_of(path), of, name, [*lines(), "planted"])
     monkeypatch.setattr(TABLES.building, "text_of", lambda it: changed if it == path else text_of(it))
     assert TABLES.main(["--check"]) == 1
-    assert f"{path}: its {name} aren't those of {of}.toml\n" in capsys.readouterr().out
+    assert f"{path}: its {name or 'lines'} aren't those of {of}.toml\n" in capsys.readouterr().out
 
 
 QUOTES = scripts.load("quotes")
