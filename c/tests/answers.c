@@ -295,6 +295,8 @@ static void answers_of_several(void)
     make_messages(messages, 65);
     CHECK(seal_three(&s, messages, sizeof frame, &failed) == KRBRELAY_EMPTY && failed == 99);
     CHECK(new_sealer(&s, 17, KRBRELAY_PRIV, UINT32_MAX - 1) == KRBRELAY_OK);
+    CHECK(krbrelay_sealer_seal_many(&s, NULL, 0, NULL, 0, sizes, &failed) == KRBRELAY_OK
+          && failed == 99);
     CHECK(krbrelay_sealer_seal_many(&s, messages, 65, frame, sizeof frame, sizes, &failed)
           == KRBRELAY_ARGUMENT && failed == 99);
     CHECK(seal_three(&s, messages, sizeof frame, &failed) == KRBRELAY_EXHAUSTED && failed == 2);

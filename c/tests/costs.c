@@ -10,7 +10,7 @@
 #include <string.h>
 #include <valgrind/callgrind.h>
 
-enum { NUMBER = 7, MOST = 262144, FRAME = MOST + 500, LINE = 200, CODE = 12 };
+enum { NUMBER = 7, MOST = 262144, FRAME = MOST + 500, LINE = 200, CODE = 12, MANY = 8 };
 
 /* ---- the allocator, which counts; the library's calls come here too */
 
@@ -40,9 +40,10 @@ void *realloc(void *block, size_t size)
 
 /* ---- the calls, at number 7 */
 
-static uint8_t key[32], data[MOST], frame[FRAME], out[FRAME];
+static uint8_t key[32], data[MOST], frame[FRAME], out[MANY * FRAME];
 static const uint8_t confounder[16] = { 1, 2, 3 };
-static size_t data_len, frame_len, told;
+static struct krbrelay_unsealed many[MANY];
+static size_t data_len, frame_len, told, sizes[KRBRELAY_MOST_MESSAGES];
 static uint32_t kind, mode;
 static int32_t etype;
 static uint64_t demanded = NUMBER;
@@ -89,6 +90,11 @@ static enum krbrelay_answer seal_record(void)
     return krbrelay_sealer_seal_record(&sealer, KRBRELAY_TEXT, data, data_len, &now, confounder, out, FRAME, &told);
 }
 
+static enum krbrelay_answer seal_many(void)
+{
+    return krbrelay_sealer_seal_many(&sealer, many, MANY, out, sizeof out, sizes, &told);
+}
+
 static enum krbrelay_answer frame_size(void)
 {
     return krbrelay_sealer_frame_size(&sealer, data_len, &now, &told);
@@ -132,7 +138,7 @@ static const struct call { const char *name; enum krbrelay_answer (*made)(void);
     { "sealer_new", new_sealer, 1, 0 }, { "opener_new", new_opener, 1, 0 },
     { "receiver_new", new_receiver, 1, 0 }, { "peer_new", new_peer, 1, 0 },
     { "sealer_seal", seal, 0, 0 }, { "sealer_seal_record", seal_record, 0, 0 },
-    { "sealer_frame_size", frame_size, 0, 0 }, { "peer_seal", peer_seal, 0, 0 },
+    { "sealer_seal_many", seal_many, 0, 0 }, { "sealer_frame_size", frame_size, 0, 0 }, { "peer_seal", peer_seal, 0, 0 },
     { "opener_unseal", unseal, 0, 1 }, { "opener_open", open_it, 0, 1 }, { "receiver_take", take, 0, 1 },
     { "peer_open", peer_open, 0, 1 }, { "message_header", header, 0, 1 },
 };
@@ -181,7 +187,8 @@ static void measure(const struct call *call, const char *what)
     answer = call->made();
     CALLGRIND_TOGGLE_COLLECT;
     snprintf(line, sizeof line, "%s|%s|%u|%d|%zu|%u|%zu|%zu|%zu|%zu", call->name, what, mode, (int)etype, data_len,
-             (unsigned)answer, asked.times, asked.bytes, asked.largest, frame_len);
+             (unsigned)answer, asked.times, asked.bytes, asked.largest,
+             call->made == seal_many ? MANY * frame_len : frame_len);
     CALLGRIND_DUMP_STATS_AT(line);
     puts(line);
     end_all();
@@ -198,6 +205,10 @@ static void measure_changed(const struct call *call, size_t at, const char *what
 static void measure_all(void)
 {
     seal_frame();
+    for (int i = 0; i < MANY; i++) {
+        many[i] = (struct krbrelay_unsealed){ .user_data = data, .user_data_len = data_len, .at = now };
+        memcpy(many[i].confounder, confounder, sizeof confounder);
+    }
     for (size_t i = 0; i < sizeof calls / sizeof *calls; i++) {
         if (calls[i].makes && data_len > 0)
             continue;

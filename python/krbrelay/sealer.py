@@ -77,10 +77,10 @@ class Sealer(Handle):
         return self._sealed(self._seal, len(content), content, at, confounder)
 
     def seal_many(self, messages: Sequence[Bytes], at: Optional[Moment] = None) -> List[bytes]:
-        """The messages of 64 user data at most, as so many calls of `seal` make them one after another,
-        at one moment and each under a confounder of its own: quicker, since the library seals eight side
-        by side. All are sealed or none: the exception is that of the first that can't be, and says which.
-        """
+        """The messages of 64 user data at most, as so many calls of `seal` make them one after
+        another, at one moment and each under a confounder of its own: quicker, since the library
+        seals eight side by side. All are sealed or none: the exception is that of the first that
+        can't be, and says which."""
         contents = [bytes_of("the user data", it) for it in messages]
         if len(contents) > MOST_MESSAGES:
             raise ValueError(f"{len(contents)} messages: a call seals {MOST_MESSAGES} at most")
@@ -97,10 +97,13 @@ class Sealer(Handle):
             place.user_data, place.user_data_len, place.at = content, len(content), moment
             place.confounder[:] = drawn(CONFOUNDER_SIZE)
         room = sum(self._library.krbrelay_frame_size(len(it)) for it in contents)
-        buffer, sizes, failed = (c_uint8 * room)(), (c_size_t * MOST_MESSAGES)(), c_size_t(MOST_MESSAGES)
-        answer = self._function("seal_many")(self._place, unsealed, len(contents), buffer, room, sizes, failed)
+        buffer, sizes = (c_uint8 * room)(), (c_size_t * MOST_MESSAGES)()
+        failed = c_size_t(MOST_MESSAGES)
+        answer = self._function("seal_many")(self._place, unsealed, len(contents), buffer, room,
+                                             sizes, failed)
         if answer:
-            raise exception_of(answer, f"message {failed.value}: " if failed.value < len(contents) else "")
+            is_one = failed.value < len(contents)
+            raise exception_of(answer, f"message {failed.value}: " if is_one else "")
         view, ends = memoryview(buffer).cast("B"), [0, *accumulate(sizes[:len(contents)])]
         return [view[begin:end].tobytes() for begin, end in zip(ends, ends[1:])]
 

@@ -12,14 +12,15 @@ from signatures.source import Export
 INNER = PREFIX + "proved_"      # the names of proved.h, for functions that C stands before
 # The header's names of what the sources call otherwise. Of a slice C has a length too.
 ALSO = {"told": "session expect demand carried header", "user": "user_data", "code": "answer",
-        "out": "frame user_data bytes name text", "body": "bytes", "number": "mode"}
-LENGTHS = "len", "key_len", "room"
+        "out": "frame frames user_data bytes name text", "body": "bytes", "number": "mode"}
+LENGTHS = "len", "key_len", "room", "count"
 RESULTS = {"u32": ("enum krbrelay_answer", "uint32_t"), "u64": ("uint64_t",), "usize": ("size_t",),
            None: ("void",)}
 DEFINED = re.compile(r"^define (?!internal)[^@\n]*@krbrelay_\w+\(.*", re.M)
 DEFINED_IN_C = re.compile(r"^\w[\w ]*\W(krbrelay_\w+)\(", re.M)
 DECLARED = re.compile(r"\b(krbrelay_\w+)\([^;{]*?\)\s*(?:KRBRELAY_NONNULL\(([\d, ]*)\)\s*)?"
                       r"(?:KRBRELAY_CHECKED)?;")
+SLICE = re.compile(r"\[\w+(<'_>)?\]$")     # of any length, so that it may be NULL
 VERSION = re.compile(r"KRBRELAY_([\d.]+) \{(.*?)\}", re.S)
 
 
@@ -79,7 +80,7 @@ def never_null(text: str) -> Dict[str, List[int]]:
 def single_values(export: Export) -> List[int]:
     """The places of pointers to a single value: these are never NULL."""
     return [at + 1 for at, it in enumerate(export.takes)
-            if "*" in it.type and "[u8]" not in it.rust]
+            if "*" in it.type and not SLICE.search(it.rust)]
 
 
 def compare_functions(count: report.Count, given: Given, has: Header) -> None:

@@ -61,6 +61,8 @@ class Library:
         self.sealer, self.opener = (ctypes.c_size_t * 2)(), (ctypes.c_size_t * 2)()
         self.names = {it: self.room.value.decode() for it in NUMBERS
                       if self.calls.krbrelay_answer_name(it, *self.out()) == 0}
+        self.calls.krbrelay_field_name.restype = ctypes.c_char_p
+        self.fields = {it: self.calls.krbrelay_field_name(it).decode() for it in NUMBERS}
         self.modes = {"a sealer": self.answers(self.new_sealer),
                       "an opener": self.answers(self.new_opener)}
         self.new_sealer(20)
@@ -203,6 +205,8 @@ class Compared:
     def results(self) -> None:
         names = {number: name for name, number in self.answer.items()}
         self.same("answer", names, self.library.names)
+        fields = {number: name.lower() for name, number in self.numbers("field", "FIELD_").items()}
+        self.same("field", {it: fields.get(it, "none") for it in NUMBERS}, self.library.fields)
         classes, given = self.numbers("class", "CLASS_"), self.library.classes
         found = {name: given.get(self.answer.get(it)) for name, it in CLASSES.items()}
         self.same("class", classes, {**found, "UNKNOWN": given[NUMBERS[-1]]})
