@@ -38,6 +38,7 @@ $sender 2> log
 python3 -c '{SEALS}'
 $sender 2>> log
 timeout 60 krbrelay-receiver --sessions sessions --store sqlite:store.db --carrier sqlite:carrier.db --shards 0 --until-closed 2>> log
+$sender 2>> log     # takes the receipt
 krbrelay-status --outbox outbox.db --store sqlite:store.db | sed -n 2p
 python3 -c '{SHOWS}'
 """
