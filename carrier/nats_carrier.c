@@ -50,6 +50,23 @@ natsStatus nats_judge_stream(const struct nats_carrier *c, const char *name, con
     return NATS_ERR;
 }
 
+/* The options of a consumer that is kept in memory and awaits no acknowledgements. */
+natsStatus nats_begin_to_consume(const struct nats_carrier *c, const char *stream, jsSubOptions *options,
+                                 jsOptions *wait)
+{
+    natsStatus status = jsSubOptions_Init(options);
+    if (status == NATS_OK)
+        status = jsOptions_Init(wait);
+    if (status != NATS_OK)
+        return status;
+    wait->Wait = 2 * c->patience;
+    options->Stream = stream;
+    options->Config.AckPolicy = js_AckNone;
+    options->Config.MemoryStorage = true;
+    options->Config.Replicas = 1;
+    return NATS_OK;
+}
+
 /* The options of a question about a stream. */
 natsStatus nats_begin_to_ask(struct nats_carrier *c, jsOptions *options)
 {

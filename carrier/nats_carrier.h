@@ -74,6 +74,10 @@ int nats_acknowledge(struct carrier *base, unsigned shard, const struct carried 
                      size_t count);
 int nats_receipts(struct carrier *base, carrier_receipt *take, void *given);
 
+/* The options of a consumer of a stream that is kept in memory and awaits no acknowledgements: nats_carrier.c. */
+natsStatus nats_begin_to_consume(const struct nats_carrier *c, const char *stream, jsSubOptions *options,
+                                 jsOptions *wait);
+
 /* The options of a question about a stream, and what its answer was: nats_carrier.c. */
 natsStatus nats_begin_to_ask(struct nats_carrier *c, jsOptions *options);
 void nats_note_asked(struct nats_carrier *c, natsStatus status);

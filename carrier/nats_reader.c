@@ -62,21 +62,14 @@ static natsStatus make_consumer(struct nats_carrier *c, const char *name)
     jsSubOptions options;
     jsOptions wait;
     jsErrCode code = 0;
-    natsStatus status = jsSubOptions_Init(&options);
-    if (status == NATS_OK)
-        status = jsOptions_Init(&wait);
+    natsStatus status = nats_begin_to_consume(c, name, &options, &wait);
     if (status != NATS_OK)
         return status;
     write_whole(subject, sizeof subject, "krb.%u.*", c->shard);
-    wait.Wait = 2 * c->patience;
-    options.Stream = name;
     options.Config.DeliverPolicy = js_DeliverByStartSequence;
     options.Config.OptStartSeq = c->after + 1;
-    options.Config.AckPolicy = js_AckNone;
     options.Config.FlowControl = true;
     options.Config.Heartbeat = (int64_t)HEARTBEAT * 1000000;
-    options.Config.MemoryStorage = true;
-    options.Config.Replicas = 1;
     return js_SubscribeSync(&c->reader, c->js, subject, &wait, &options, &code);
 }
 

@@ -108,17 +108,10 @@ static natsStatus subscribe(struct nats_carrier *c, natsSubscription **reader)
     jsSubOptions options;
     jsOptions wait;
     jsErrCode code = 0;
-    natsStatus status = jsSubOptions_Init(&options);
-    if (status == NATS_OK)
-        status = jsOptions_Init(&wait);
+    natsStatus status = nats_begin_to_consume(c, STREAM, &options, &wait);
     if (status != NATS_OK)
         return status;
-    wait.Wait = 2 * c->patience;
-    options.Stream = STREAM;
     options.Config.DeliverPolicy = js_DeliverLastPerSubject;
-    options.Config.AckPolicy = js_AckNone;
-    options.Config.MemoryStorage = true;
-    options.Config.Replicas = 1;
     return js_SubscribeSync(reader, c->js, "krbr.*.*", &wait, &options, &code);
 }
 

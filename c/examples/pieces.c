@@ -189,7 +189,7 @@ static const char *wrong_field(struct krbrelay_demand demand)
     return name;
 }
 
-/* Whether a demand that forgets the number is told so. */
+/* Whether the wrong field of a demand that forgets the number is named. */
 static int names_fields(void)
 {
     struct krbrelay_demand demand = { .how_time = KRBRELAY_REQUIRED, .skew = 300 };

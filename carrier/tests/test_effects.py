@@ -66,14 +66,19 @@ for line in sys.stdin:
 """
 
 
-@pytest.fixture(scope="module")
-def programs(shared, prefix):
+def both_programs(shared, prefix, name, postgresql="no"):
+    """A folder of this name with sender and receiver, without NATS."""
     def build(folder):
-        done = subprocess.run(["make", "-C", SOURCES, f"OUT={folder}", f"PREFIX={prefix}",
-                               f"CC={' '.join(c_tools.c_compiler())}", "WITH_NATS=no", "WITH_POSTGRESQL=no"],
+        done = subprocess.run(["make", "-C", SOURCES, f"OUT={folder}", f"PREFIX={prefix}", "WITH_NATS=no",
+                               f"CC={' '.join(c_tools.c_compiler())}", f"WITH_POSTGRESQL={postgresql}"],
                               check=False, capture_output=True, text=True)
         assert done.returncode == 0, done.stdout + done.stderr
-    return shared.once("programs_of_effects", build)
+    return shared.once(name, build)
+
+
+@pytest.fixture(scope="module")
+def programs(shared, prefix):
+    return both_programs(shared, prefix, "programs_of_effects")
 
 
 class Ends:

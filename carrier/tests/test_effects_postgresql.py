@@ -6,9 +6,7 @@ import tempfile
 
 import engines
 import pytest
-from test_effects import SOURCES, Ends, compiled, texts
-
-from lib.build import c_tools
+from test_effects import Ends, both_programs, compiled, texts
 
 # A cast isn't a name, and nor is what is in quotes.
 STATEMENT = "sql:INSERT INTO mine (session, number, part, text, again) VALUES (:session, :number, :part::int, :text, ':no')"
@@ -18,12 +16,7 @@ REFUSES = "CHECK (text != 'bad')"
 
 @pytest.fixture(scope="module")
 def programs(shared, prefix):
-    def build(folder):
-        done = subprocess.run(["make", "-C", SOURCES, f"OUT={folder}", f"PREFIX={prefix}", "WITH_NATS=no",
-                               f"CC={' '.join(c_tools.c_compiler())}", "WITH_POSTGRESQL=yes"],
-                              check=False, capture_output=True, text=True)
-        assert done.returncode == 0, done.stdout + done.stderr
-    return shared.once("programs_of_effects_postgresql", build)
+    return both_programs(shared, prefix, "programs_of_effects_postgresql", "yes")
 
 
 @pytest.fixture(scope="module")

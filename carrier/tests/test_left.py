@@ -7,12 +7,11 @@ import sqlite3
 import subprocess
 
 import pytest
+from test_effects import both_programs
 
 from lib import scripts
 from lib.build import c_tools
 
-HERE = os.path.dirname(os.path.abspath(__file__))
-SOURCES = os.path.dirname(HERE)
 KEYS = [bytes(range(0xA1, 0xC1)), bytes(range(0x41, 0x61))]      # of the session, and of the way back
 LINE = f"tom 0 18 priv {KEYS[0].hex()} 1 10.0.0.2 10.0.0.255 {KEYS[1].hex()}\n"
 TEXTS = 40
@@ -22,12 +21,7 @@ MOST = 20_000           # allocations of a run
 
 @pytest.fixture(scope="module")
 def programs(shared, prefix):
-    def build(folder):
-        done = subprocess.run(["make", "-C", SOURCES, f"OUT={folder}", f"PREFIX={prefix}",
-                               f"CC={' '.join(c_tools.c_compiler())}", "WITH_NATS=no", "WITH_POSTGRESQL=no"],
-                              check=False, capture_output=True, text=True)
-        assert done.returncode == 0, done.stdout + done.stderr
-    return shared.once("programs_of_left", build)
+    return both_programs(shared, prefix, "programs_of_left")
 
 
 class Watched:
