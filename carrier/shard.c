@@ -120,7 +120,7 @@ static void note_unaccepted(struct shard *s, struct receiving *of, const struct 
     }
     if (outcome == KRBRELAY_OUTCOME_EARLY) {
         s->counts.early++;
-        note_missed(s, of, KRBRELAY_MISSED_EARLY);
+        note_missed(s, of, MISSED_EARLY);
         tell_early(s, of, it, seen->opened);
     } else {
         tell_refused(s, it, answer);
@@ -216,7 +216,7 @@ static int take_accepted(struct shard *s, struct receiving *of, const struct car
         || outcome != KRBRELAY_OUTCOME_ACCEPTED)
         return -1; /* never: what the store has, and what was taken since, is where both are */
     of->now.at = it->offset;
-    of->now.missed = KRBRELAY_MISSED_NOTHING;
+    of->now.missed = MISSED_NOTHING;
     of->has_opened = 1;
     note_changed(s, of);
     goes_on(s, of);
@@ -278,7 +278,7 @@ static int take_before_turn(struct shard *s, struct receiving *of, const struct 
              field_text("text", "it has to come again after the close of the session before"));
     if (krbrelay_receiving_take(&of->end, it->frame, it->len, &seen, &outcome) != KRBRELAY_OK)
         return -1;
-    note_missed(s, of, KRBRELAY_MISSED_EARLY);
+    note_missed(s, of, MISSED_EARLY);
     stands(s, of);
     return 0;
 }
@@ -323,7 +323,7 @@ static void draft(struct receiving *it)
     it->now.closed = row->closed;
     memcpy(it->now.history.bytes, row->history, sizeof row->history);
     if (row->closed)
-        it->now.missed = KRBRELAY_MISSED_NOTHING;
+        it->now.missed = MISSED_NOTHING;
 }
 
 static int advance_all(struct shard *s)

@@ -141,7 +141,7 @@ static int is_other_list(const struct shard *s)
 static void reset(struct demand *stored)
 {
     stored->at = 0;
-    stored->missed = KRBRELAY_MISSED_NOTHING;
+    stored->missed = MISSED_NOTHING;
 }
 
 static int note_stored(void *given, const char *name, const struct demand *demand)
@@ -167,7 +167,7 @@ static void place_session(const struct shard *s, struct receiving *it)
     if (!it->stored.is_stored || it->stored.shard != (int32_t)s->number) {
         it->now.at = 0;
         it->now.shard = (int32_t)s->number;
-        it->now.missed = KRBRELAY_MISSED_NOTHING;
+        it->now.missed = MISSED_NOTHING;
     }
 }
 

@@ -23,8 +23,10 @@ struct store;
  * All zeros: nothing was read. */
 struct reached { uint64_t incarnation, offset; };
 
-/* What a frame that was refused for a reason that may pass is stored as: with libkrbrelay's answer. */
-#define missed_by(answer) (KRBRELAY_MISSED_UNSETTLED + ((uint32_t)(answer) << 8))
+/* What a session misses: nothing, a frame before one that came early, or one that was refused for a reason that
+ * may pass; that is stored with libkrbrelay's answer. */
+enum { MISSED_NOTHING = 0, MISSED_EARLY = 1, MISSED_UNSETTLED = 2 };
+#define missed_by(answer) (MISSED_UNSETTLED + ((uint32_t)(answer) << 8))
 
 /* A session: what it demands next, whether its close was accepted, and the history of its frames that took
  * effect, which isn't known of a session that an older version stored. For who looks, and for a receiver of
@@ -33,7 +35,7 @@ struct reached { uint64_t incarnation, offset; };
 struct demand {
     uint64_t next;
     uint32_t closed;
-    uint32_t missed;    /* KRBRELAY_MISSED_*, or missed_by an answer */
+    uint32_t missed;    /* MISSED_*, or missed_by an answer */
     uint64_t at;
     int32_t shard;      /* -1: it was stored before places were */
     uint32_t is_stored; /* 0: the store doesn't know the session */

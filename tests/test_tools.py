@@ -363,22 +363,22 @@ def test_a_plant_around_a_call_is_c(name):
 
 
 @pytest.mark.parametrize("said, goals", [
-    ("fn krb_carry::place::Place::take: no proof: expected answers in A; `search` did not prove `returns-clause-moved`",
+    ("fn krb_carry::progress::Progress::take: no proof: expected answers in A; `search` did not prove `returns-clause-moved`",
      "`returns-clause-moved`"),
-    ("fn krb_carry::place::Place::take_all: no proof: A; `search` did not prove `returns`", ""),
-    ("./proofs/place/Place/take/Answers.antt:9:5: error: `returns-clause-moved`: the two types differ\n"
-     "fn krb_carry::place::Place::take: not proved", "`returns-clause-moved`"),
-    ("./proofs/place/Place/gone/Answers.antt:9:5: error: `returns-clause-moved`: the two types differ\n"
-     "fn krb_carry::place::Place::take: not proved", ""),
-    ("note: src/place.rt:9:1: it is not proved that what the function ensures holds (`returns-clause-none`); more\n"
-     "fn krb_carry::place::Place::take: not proved", "`returns-clause-none`"),
-    ("note: src/place.rt:9:1: it is not proved that what the function ensures holds (`returns-clause-none`); more\n"
-     "fn krb_carry::place::Place::gone: not proved\nfn krb_carry::place::Place::take: not proved", ""),
-    ("fn krb_carry::place::Place::take: proved", ""),
-    ("src/place.rt is not in the layout\nrt: krb_carry NOT PROVED", ""),
-    ("fn krb_carry::place::follow: no proof: it calls `krb_carry::place::Place::take`, which is not proved", "")])
+    ("fn krb_carry::progress::Progress::take_all: no proof: A; `search` did not prove `returns`", ""),
+    ("./proofs/progress/Progress/take/Answers.antt:9:5: error: `returns-clause-moved`: the two types differ\n"
+     "fn krb_carry::progress::Progress::take: not proved", "`returns-clause-moved`"),
+    ("./proofs/progress/Progress/gone/Answers.antt:9:5: error: `returns-clause-moved`: the two types differ\n"
+     "fn krb_carry::progress::Progress::take: not proved", ""),
+    ("note: src/progress.rt:9:1: it is not proved that what the function ensures holds (`returns-clause-none`); more\n"
+     "fn krb_carry::progress::Progress::take: not proved", "`returns-clause-none`"),
+    ("note: src/progress.rt:9:1: it is not proved that what the function ensures holds (`returns-clause-none`); more\n"
+     "fn krb_carry::progress::Progress::gone: not proved\nfn krb_carry::progress::Progress::take: not proved", ""),
+    ("fn krb_carry::progress::Progress::take: proved", ""),
+    ("src/progress.rt is not in the layout\nrt: krb_carry NOT PROVED", ""),
+    ("fn krb_carry::progress::follow: no proof: it calls `krb_carry::progress::Progress::take`, which is not proved", "")])
 def test_a_refusal_names_a_goal_of_the_function(said, goals):
-    assert checks.goals_of(f"== krb_carry\n{said}\n1 passed", "krb_carry", "Place::take") == goals
+    assert checks.goals_of(f"== krb_carry\n{said}\n1 passed", "krb_carry", "Progress::take") == goals
 
 
 def test_a_plant_around_no_call_is_told():

@@ -181,10 +181,8 @@ static void others(void)
     char name[KRBRELAY_TEXT_SIZE];
     struct krbrelay_moment now = KRBRELAY_INIT;
     struct krbrelay_progress progress;
-    struct krbrelay_place place = KRBRELAY_INIT;
-    const struct krbrelay_taken taken = { .accepted = 1 };
     uint64_t again = 0;
-    uint32_t counts = 0, outcome = 0;
+    uint32_t counts = 0;
     size_t size = 0;
     for (uint32_t answer = 0; answer < 1000; answer++) {
         enum krbrelay_answer found = krbrelay_answer_name(answer, name, sizeof name, &size);
@@ -201,8 +199,6 @@ static void others(void)
     CHECK(krbrelay_progress_publish(&progress, 2) == KRBRELAY_OK);
     CHECK(krbrelay_progress_confirm(&progress, 7, 1, &counts) == KRBRELAY_OK && counts == 1);
     CHECK(krbrelay_progress_rewind(&progress, &again) == KRBRELAY_OK && again == 1);
-    CHECK(krbrelay_place_take(&place, 1, &taken, &outcome) == KRBRELAY_OK && place.at == 1);
-    CHECK(krbrelay_place_read_again(&place) == KRBRELAY_OK);
     fields();
     ends();
     krbrelay_clear_stack();

@@ -1,4 +1,4 @@
-/* A fuzzer of all calls of the library but those of places (place.c): random calls upon a few handles, beside a model that says of
+/* A fuzzer of all calls of the library: random calls upon a few handles, beside a model that says of
  * each call which answer comes. Frames go from sealers to openers and receivers, and arguments are at
  * times wrong in one or several ways, so that the first reason counts.
  *

@@ -54,7 +54,7 @@ static struct reached at(uint64_t offset)
 
 static struct demand demands(uint64_t number)
 {
-    return (struct demand){ number, 0, KRBRELAY_MISSED_NOTHING, number - 1, SHARD, number != 1,
+    return (struct demand){ number, 0, MISSED_NOTHING, number - 1, SHARD, number != 1,
                             { .is_known = 0 } };
 }
 

@@ -38,7 +38,7 @@ static struct history history_of(uint64_t number)
 /* A session that demands this number, with its place. */
 static struct demand demands(uint64_t number, uint64_t place)
 {
-    return (struct demand){ number, 0, KRBRELAY_MISSED_NOTHING, place, SHARD, number != FIRST,
+    return (struct demand){ number, 0, MISSED_NOTHING, place, SHARD, number != FIRST,
                             history_of(number) };
 }
 
@@ -117,7 +117,7 @@ static void test_compared(struct store *one)
     for (i = 0; i < 4; i++) {
         struct demand before = demands(9, 12), after = demands(10, 13);
         before.closed = i == 0;
-        before.missed = i == 1 ? KRBRELAY_MISSED_EARLY : KRBRELAY_MISSED_NOTHING;
+        before.missed = i == 1 ? MISSED_EARLY : MISSED_NOTHING;
         before.at += i == 2;
         before.shard += i == 3;
         check(store_begin(one, SHARD, &from, &to) == 0, "begin");
@@ -131,7 +131,7 @@ static void test_compared(struct store *one)
 static void test_other_list(struct store *one, struct store *other)
 {
     const struct reached from = at(12), to = { LIST + 1, 3 };
-    const struct demand fine = demands(9, 12), after = { 9, 0, KRBRELAY_MISSED_UNSETTLED, 12, SHARD, 1,
+    const struct demand fine = demands(9, 12), after = { 9, 0, MISSED_UNSETTLED, 12, SHARD, 1,
                                                        history_of(9) };
     struct demand found = { 0 }, reset = after;
     struct reached reached;
@@ -141,7 +141,7 @@ static void test_other_list(struct store *one, struct store *other)
     check(store_begin(one, SHARD, &from, &to) == 0 && store_commit(one) == 0, "another list");
     check(store_reached(other, SHARD, &reached) == 0 && read_session(other, &found) == 0, "read");
     check(reached.incarnation == LIST + 1 && reached.offset == 3, "it is stored");
-    check(found.at == 0 && found.missed == KRBRELAY_MISSED_NOTHING && found.next == 9, "its place");
+    check(found.at == 0 && found.missed == MISSED_NOTHING && found.next == 9, "its place");
     check(store_begin(one, SHARD, &to, &from) == 0 && store_advance(one, name, &reset, &fine) == 0
               && store_commit(one) == 0, "back again");
 }
@@ -205,7 +205,7 @@ static void test_lost(const char *where)
 
 int main(int count, char **words)
 {
-    const struct demand end = { 11, 1, KRBRELAY_MISSED_NOTHING, 16, SHARD, 1, history_of(11) };
+    const struct demand end = { 11, 1, MISSED_NOTHING, 16, SHARD, 1, history_of(11) };
     struct reached from, to = at(16);
     struct demand before;
     struct store *one, *other;

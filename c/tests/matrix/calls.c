@@ -237,15 +237,6 @@ static uint32_t progress_publish(void) { return krbrelay_progress_publish(&progr
 static uint32_t progress_confirm(void) { return krbrelay_progress_confirm(&progress, 0, 0, &told.kind); }
 static uint32_t progress_rewind(void) { return krbrelay_progress_rewind(&progress, &told.number); }
 
-static struct krbrelay_place place = { 5, 0, 1 };
-static uint32_t place_read_again(void) { return krbrelay_place_read_again(&place); }
-
-static uint32_t place_take(void)
-{
-    struct krbrelay_taken taken = { .demanded = NUMBER, .accepted = 1 };
-    return krbrelay_place_take(&place, 9, &taken, &told.kind);
-}
-
 static uint32_t history_add(void)
 {
     uint8_t history[KRBRELAY_HISTORY_SIZE] = { 0 };
@@ -392,7 +383,7 @@ struct call calls[] = {
     NONE(class_of, NO_HANDLE), NONE(address_from, NO_HANDLE), NONE(batch_add, NO_HANDLE),
     NONE(batch_next, NO_HANDLE), NONE(progress_new, NO_HANDLE), NONE(progress_store, NO_HANDLE),
     NONE(progress_publish, NO_HANDLE), NONE(progress_confirm, NO_HANDLE), NONE(progress_rewind, NO_HANDLE),
-    NONE(place_take, NO_HANDLE), NONE(place_read_again, NO_HANDLE), NONE(window_new, NO_HANDLE),
+    NONE(window_new, NO_HANDLE),
     NONE(window_take, NO_HANDLE), NONE(history_add, NO_HANDLE),
     NONE(sending_load, NO_HANDLE), NONE(sending_sealed, NO_HANDLE), NONE(sending_confirmed, NO_HANDLE),
     NONE(sending_listed, NO_HANDLE), NONE(sending_reconnected, NO_HANDLE), NONE(sending_receipt, NO_HANDLE),

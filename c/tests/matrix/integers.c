@@ -100,21 +100,45 @@ static void try_expectations(uint32_t beyond)
     try_call(call_of("opener_unseal"), "microseconds beyond", KRBRELAY_MOMENT);
 }
 
-static void try_places(uint64_t beyond)
+static void try_sent(uint64_t beyond)
 {
-    struct krbrelay_place place = { 5, 0, 1 };
-    struct krbrelay_taken taken = { .demanded = NUMBER, .accepted = 1 };
-    uint32_t outcome = 0, low = (uint32_t)beyond;
-    is_so(krbrelay_place_take(&place, beyond + 9, &taken, &outcome) == KRBRELAY_OK && place.at == beyond + 9,
-          "a place at an offset beyond");
+    struct krbrelay_sending it;
+    uint32_t counts = 7;
+    is_so(krbrelay_sending_load(&it, beyond + 3, beyond + 1, beyond + 5, 1, 0, 0) == KRBRELAY_OK
+          && it.progress.next == beyond + 3 && it.progress.at == beyond + 5, "an end of numbers beyond");
+    is_so(krbrelay_sending_confirmed(&it, beyond + 1, 9, 0, &counts) == KRBRELAY_OK && counts == 0
+          && krbrelay_sending_confirmed(&it, 1, beyond + 9, 0, &counts) == KRBRELAY_OK && counts == 0
+          && krbrelay_sending_confirmed(&it, beyond + 1, beyond + 9, 0, &counts) == KRBRELAY_OK && counts == 1
+          && it.progress.at == beyond + 9, "an offset beyond");
+}
+
+static void try_received(uint64_t beyond)
+{
+    struct krbrelay_row row = { .number = beyond + 5 };
+    struct krbrelay_receiving it;
+    struct krbrelay_seen seen = { .opened = 5, .has_opened = 1 };
+    uint32_t outcome = 99, low = (uint32_t)beyond;
+    krbrelay_receiving_load(&it, &row, 0);
+    is_so(krbrelay_receiving_take(&it, NULL, 0, &seen, &outcome) == KRBRELAY_OK
+          && outcome == KRBRELAY_OUTCOME_REPEAT, "a demanded number beyond");
+    seen.opened = beyond + 6;
+    is_so(krbrelay_receiving_take(&it, NULL, 0, &seen, &outcome) == KRBRELAY_OK
+          && outcome == KRBRELAY_OUTCOME_EARLY, "a frame's number beyond");
     if (low == 0)
         return;
-    place = (struct krbrelay_place){ 5, low, 1 };
-    is_so(krbrelay_place_take(&place, 9, &taken, &outcome) == KRBRELAY_ARGUMENT, "a place's missed beyond");
-    place = (struct krbrelay_place){ 5, 0, low };
-    taken.accepted = low;
-    is_so(krbrelay_place_take(&place, 9, &taken, &outcome) == KRBRELAY_OK
-          && outcome == KRBRELAY_OUTCOME_ACCEPTED && place.at == 9, "a place's known and accepted beyond");
+    seen.has_opened = low;
+    is_so(krbrelay_receiving_take(&it, NULL, 0, &seen, &outcome) == KRBRELAY_OK
+          && outcome == KRBRELAY_OUTCOME_EARLY, "whether it opens, beyond");
+    seen.reserved = low;
+    is_so(krbrelay_receiving_take(&it, NULL, 0, &seen, &outcome) == KRBRELAY_ARGUMENT, "what is in reserve beyond");
+    seen.reserved = 0;
+    it.owed = low + 3;
+    is_so(krbrelay_receiving_take(&it, NULL, 0, &seen, &outcome) == (it.owed > 3 ? KRBRELAY_ARGUMENT : KRBRELAY_OK),
+          "a receipt beyond");
+    it.owed = 0;
+    seen.accepted = low;
+    is_so(krbrelay_receiving_take(&it, NULL, 0, &seen, &outcome) == KRBRELAY_OK
+          && outcome == KRBRELAY_OUTCOME_ACCEPTED && it.drafted.number == beyond + 6, "accepted beyond");
 }
 
 static void try_progress(uint64_t beyond)
@@ -155,7 +179,8 @@ void try_integers(uint32_t mode, int32_t etype)
     for (size_t i = 0; i < sizeof bits / sizeof *bits; i++) {
         uint64_t beyond = UINT64_C(1) << bits[i];
         try_64_bits(beyond);
-        try_places(beyond);
+        try_sent(beyond);
+        try_received(beyond);
         try_progress(beyond);
         try_windows(beyond);
         if (bits[i] >= 32)

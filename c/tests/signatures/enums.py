@@ -20,12 +20,9 @@ DEMANDS = {"sender": HOWS[:3], "receiver": HOWS[:3], "time": HOWS, "number": HOW
 # An answer of each class.
 CLASSES = {"OK": "OK", "REFUSAL": "BADORDER", "CALLER": "ROOM", "STATE": "EMPTY",
            "MEMORY": "MEMORY", "SYSTEM": "CLOCK"}
-# What is known of a frame (demanded, opened, accepted, has_opened), whether the place knows the
-# key, and what the frame is taken for.
-OUTCOMES = [((5, 0, 1, 0), 0, "ACCEPTED"), ((5, 4, 0, 1), 0, "REPEAT"),
-            ((5, 7, 0, 1), 0, "EARLY"), ((5, 0, 0, 0), 1, "UNKNOWN"),
-            ((5, 0, 0, 0), 0, "UNSETTLED"), ((5, 5, 0, 1), 1, "UNSETTLED")]
-MISSED = {"ACCEPTED": "NOTHING", "EARLY": "EARLY", "UNSETTLED": "UNSETTLED"}
+# What is known of a frame where 5 is demanded (opened, has_opened, accepted), and what it is taken for.
+OUTCOMES = [((0, 0, 1), "ACCEPTED"), ((4, 1, 0), "REPEAT"), ((7, 1, 0), "EARLY"), ((0, 0, 0), "UNKNOWN"),
+            ((5, 1, 0), "UNSETTLED")]
 # Of a session's end at a sender, of a receipt and of a shard at a receiver, the words of 32 bits that
 # aren't 0, by their places; and what is answered.
 NEXT, CARRIED, SENT, WINDOW, AGAIN, PROBE, HELD, ENDED = 0, 2, 6, 14, 22, 26, 29, 31
@@ -70,9 +67,8 @@ class Library:
         self.records = {it: self.answers(functools.partial(self.seal, it)) for it in RECORDS}
         self.demands = {what: self.answers(functools.partial(self.open, at))
                         for at, what in enumerate(DEMANDS)}
-        self.missed = self.answers(self.read_again)
         self.classes = dict(zip(NUMBERS, self.answers(self.calls.krbrelay_class_of)))
-        self.outcomes = [self.take(*frame, known) for frame, known, _ in OUTCOMES]
+        self.outcomes = [self.take(*frame) for frame, _ in OUTCOMES]
         self.kinds = {name: self.kind(*it) for name, it in KINDS.items()}
         self.asks = self.answers(lambda asks: self.hear({7: asks})[0])
         self.ended = self.answers(lambda ended: self.serve({ENDED: ended})[0])
@@ -110,16 +106,13 @@ class Library:
         return self.calls.krbrelay_opener_open(self.opener, b"x", ctypes.c_size_t(1), demand,
                                                MOMENT, *self.out(), numbers_of())
 
-    def read_again(self, missed: int) -> int:
-        return self.calls.krbrelay_place_read_again(numbers_of(5, 0, missed, 1))
-
-    def take(self, demanded: int, opened: int, accepted: int, has_opened: int,
-             known: int) -> Tuple[int, int]:
-        """What a frame is taken for, and what is missed then."""
-        told, place = numbers_of(), numbers_of(0, 0, 0, known)
-        frame = numbers_of(demanded, 0, opened, 0, 0, accepted, has_opened)
-        self.calls.krbrelay_place_take(place, ctypes.c_uint64(9), frame, told)
-        return told[0], place[2]
+    def take(self, opened: int, has_opened: int, accepted: int) -> int:
+        """What a frame is taken for."""
+        told, receiving = numbers_of(), numbers_of()
+        self.calls.krbrelay_receiving_load(receiving, numbers_of(5), ctypes.c_uint64(0))
+        self.calls.krbrelay_receiving_take(receiving, b"x", ctypes.c_size_t(1),
+                                           numbers_of(opened, 0, has_opened, accepted), told)
+        return told[0]
 
     def serve(self, words: Dict[int, int]) -> Tuple[int, int]:
         """The answer of a service, and the kind of its command."""
@@ -198,7 +191,6 @@ class Compared:
         for what, answers in self.library.demands.items():
             mine = [hows.get(it, NONE) for it in DEMANDS[what]]
             self.taken("how", mine, answers, "ARGUMENT", what)
-        self.taken("missed", self.numbers("missed").values(), self.library.missed, "ARGUMENT")
         self.same("record", set(records), set(sum(RECORDS.values(), ())), "all")
         self.same("how", set(hows), set(HOWS), "all")
 
@@ -227,12 +219,10 @@ class Compared:
             self.same(enum, self.numbers(enum, begin), theirs)
 
     def outcomes(self) -> None:
-        mine, missed = self.numbers("outcome", "OUTCOME_"), self.numbers("missed", "MISSED_")
-        for (_, _, name), (outcome, left) in zip(OUTCOMES, self.library.outcomes):
+        mine = self.numbers("outcome", "OUTCOME_")
+        for (_, name), outcome in zip(OUTCOMES, self.library.outcomes):
             self.same("outcome", mine.get(name), outcome, name)
-            if name in MISSED:
-                self.same("missed", missed.get(MISSED[name]), left, f"a frame taken for {name}")
-        self.same("outcome", sorted(mine), sorted({it[2] for it in OUTCOMES}), "all")
+        self.same("outcome", sorted(mine), sorted(name for _, name in OUTCOMES), "all")
 
 
 def compare(count: report.Count, path: str, enums: Dict[str, Dict[str, int]]) -> None:

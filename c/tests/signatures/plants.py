@@ -6,7 +6,7 @@ from lib import report
 from signatures import compared
 from signatures.given import HEADER, MAP, MODULE, PROVED, PYTHON, RELEASED, Given
 
-PLACE, SESSION = "crates/krb_carrier_structs/src/place.rt", "crates/krb_structs/src/session.rt"
+RECEIVING, SESSION = "crates/krb_carrier_structs/src/receiving.rt", "crates/krb_structs/src/session.rt"
 
 
 class Plant(NamedTuple):
@@ -33,8 +33,8 @@ def declares(name: str) -> str:
 PLANTS = [
     Plant("a number of 32 bits in the module", MODULE, define("krbrelay_opener_unseal"),
           "i64 noundef %a3", "i32 noundef %a3", "krbrelay_opener_unseal, in the module: "),
-    Plant("an offset of 32 bits in the module", MODULE, define("krbrelay_place_take"),
-          "i64 noundef %a1", "i32 noundef %a1", "krbrelay_place_take, in the module: "),
+    Plant("an offset of 32 bits in the module", MODULE, define("krbrelay_sending_confirmed"),
+          "i64 noundef %a2", "i32 noundef %a2", "krbrelay_sending_confirmed, in the module: "),
     Plant("a flag of 8 bits in the module", MODULE, define("krbrelay_receiver_new"),
           "i32 noundef %a6", "i8 noundef zeroext %a6", "krbrelay_receiver_new, in the module: "),
     Plant("a length of 32 bits in the module", MODULE, define("krbrelay_sealer_frame_size"),
@@ -76,16 +76,16 @@ PLANTS = [
           "int32_t etype", "int64_t etype", "krbrelay_proved_sealer_new of proved.h: "),
     Plant("a field less in reserve", HEADER, r"^struct krbrelay_demand \{.*?\n\};",
           "reserved[4]", "reserved[3]", "struct krbrelay_demand, reserved: "),
-    Plant("a field more", HEADER, r"^struct krbrelay_place \{.*?\n\};",
-          "uint32_t known; ", "uint32_t known, more; ",
-          "struct krbrelay_place: fields, size and alignment: "),
+    Plant("a field more", HEADER, r"^struct krbrelay_row \{.*?\n\};",
+          "uint32_t closed; ", "uint32_t closed, more; ",
+          "struct krbrelay_row: fields, size and alignment: "),
     Plant("a struct more", HEADER, r"^struct krbrelay_moment \{",
           "struct", "struct krbrelay_more { int a; };\nstruct", "structs of the source: "),
-    Plant("two fields exchanged in the source", PLACE, r"pub struct KrbTaken \{.*?\n\}",
-          "pub demanded: u64,\n"
-          "    /// The number under which it opens if nothing is demanded of it.\n"
-          "    pub opened: u64,", "pub opened: u64,\n    pub demanded: u64,",
-          "struct krbrelay_taken, opened: "),
+    Plant("two fields exchanged in the source", RECEIVING, r"pub struct KrbSeen \{.*?\n\}",
+          "pub has_opened: u32,\n"
+          "    /// Not 0: it opens at the demanded number, and passes each check.\n"
+          "    pub accepted: u32,", "pub accepted: u32,\n    pub has_opened: u32,",
+          "struct krbrelay_seen, accepted: "),
     Plant("an address of 39 bytes", SESSION, "",
           "ADDRESS_ROOM: usize = 40", "ADDRESS_ROOM: usize = 39",
           "struct krbrelay_address, bytes: "),
@@ -128,14 +128,6 @@ PLANTS = [
     Plant("a class more", HEADER, "",
           "KRBRELAY_CLASS_UNKNOWN = 6 ", "KRBRELAY_CLASS_UNKNOWN = 6, KRBRELAY_CLASS_MORE = 7 ",
           "enum krbrelay_class of any number: "),
-    Plant("two names of what was missed exchanged", HEADER, "",
-          "KRBRELAY_MISSED_EARLY = 1,          /* a frame that came before its turn */\n"
-          "    KRBRELAY_MISSED_UNSETTLED = 2",
-          "KRBRELAY_MISSED_UNSETTLED = 1, KRBRELAY_MISSED_EARLY = 2",
-          "enum krbrelay_missed of a frame taken for EARLY: "),
-    Plant("what was missed is 3", HEADER, "",
-          "KRBRELAY_MISSED_UNSETTLED = 2 ", "KRBRELAY_MISSED_UNSETTLED = 3 ",
-          "enum krbrelay_missed: "),
     Plant("an outcome of 5", HEADER, "",
           "KRBRELAY_OUTCOME_UNKNOWN = 3,", "KRBRELAY_OUTCOME_UNKNOWN = 5,",
           "enum krbrelay_outcome of UNKNOWN: "),

@@ -4,8 +4,8 @@
 //! A handle is a struct of the caller's, made of zeros, which then holds a sealer, an opener, a
 //! receiver or a peer on the heap. Each export says of the handle what the function of `krb_structs` says: its
 //! answer is that of the first condition that doesn't hold. The progress of a session's frames
-//! ([`krb_carry::Progress`]), the place of a session ([`krb_carry::Place`]) and a window
-//! ([`krb_window::Window`]) have no handle: they are numbers of the caller's. So is all that both ends of a
+//! ([`krb_carry::Progress`]) and a window ([`krb_window::Window`]) have no handle: they are numbers of
+//! the caller's. So is all that both ends of a
 //! carrier keep but the queue (krb_engine, over the structs of krb_carrier_structs). Nor has the history of
 //! a session ([`krb_history::with_frame`]) a handle, which is bytes of the caller's.
 #![tactic(auto)]
@@ -21,7 +21,6 @@ mod opener_handle;
 mod pause_calls;
 mod peer_calls;
 mod peer_handle;
-mod place_calls;
 mod progress_calls;
 mod queue_calls;
 mod queue_handle;

@@ -4,11 +4,11 @@
 
 ghost use Rattle.std.specs.Prelude.{◌≡◌, ◌↔◌};
 ghost use Rattle.krb_carrier_structs.specs.Calls.{AnswersTold};
-ghost use Rattle.krb_carrier_structs.specs.Place.{outcome_number};
+ghost use Rattle.krb_carrier_structs.specs.Numbers.{outcome_number};
 ghost use Rattle.krb_carrier_structs.specs.Receiving.{CanTakeFrame, IsReceiving, TellsReceiving, told_receiving, told_row, told_seen};
 ghost use Rattle.krb_engine.specs.Receiving.{dropped, has_row, outcome as taken_for, stored, took};
 
-use krb_carrier_structs::{KrbReceipt, KrbReceiving, KrbRow, KrbSeen, number_of, receipt_told};
+use krb_carrier_structs::{KrbReceipt, KrbReceiving, KrbRow, KrbSeen, number_of_outcome, receipt_told};
 use krb_engine::Receiving;
 use krb_structs::Fault;
 
@@ -44,7 +44,7 @@ pub extern "C" fn krbrelay_receiving_take(
     if seen.reserved != 0 || receiving.drafted.number == u64::MAX {
         return Fault::Argument.code();
     }
-    *outcome = number_of(end.take(frame, seen.seen()));
+    *outcome = number_of_outcome(end.take(frame, seen.seen()));
     *receiving = KrbReceiving::of(end);
     0
 }

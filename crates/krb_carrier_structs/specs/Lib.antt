@@ -1,6 +1,5 @@
 pub mod Numbers
 pub mod Pause
-pub mod Place
 pub mod Progress
 pub mod Command
 pub mod Receipt

@@ -1,5 +1,5 @@
 -- What the numbers of the header say.
-use Rattle.std.specs.Prelude.{ℕ, ◌==◌, Option, Some, None, if◌then◌else◌}
+use Rattle.std.specs.Prelude.{ℕ, ◌==◌, Bool, not, Option, Some, None, if◌then◌else◌}
 use Rattle.krb_engine.specs.declared.sending.Asks.{Asks}
 use Rattle.krb_engine.specs.declared.sending.Asks.TheVariants as asks
 use Rattle.krb_engine.specs.declared.sending.Ended.{Ended}
@@ -8,10 +8,16 @@ use Rattle.krb_engine.specs.declared.sending.Heard.{Heard}
 use Rattle.krb_engine.specs.declared.sending.Heard.TheVariants as hears
 use Rattle.krb_engine.specs.declared.sending.Stands.{Stands}
 use Rattle.krb_engine.specs.declared.sending.Stands.TheVariants as standings
+use Rattle.krb_engine.specs.declared.receiving.Outcome.{Outcome}
+use Rattle.krb_engine.specs.declared.receiving.Outcome.TheVariants as outcomes
 use Rattle.krb_engine.specs.declared.shards.Read.{Read}
 use Rattle.krb_engine.specs.declared.shards.Read.TheVariants as reads
 use Rattle.krb_engine.specs.declared.stream.Judged.{Judged}
 use Rattle.krb_engine.specs.declared.stream.Judged.TheVariants as judgements
+
+-- any number but 0 says yes
+abbrev pub says : ℕ → Bool
+says n = not (n == 0)
 
 -- what a receipt asks for: 0 is no receipt
 abbrev pub told_asks : ℕ → Option Asks
@@ -52,3 +58,11 @@ abbrev pub judged_number : Judged → ℕ
 judged_number judgements.Begins = 0
 judged_number judgements.Later = 1
 judged_number judgements.Forked = 2
+
+-- what a frame is taken for
+abbrev pub outcome_number : Outcome → ℕ
+outcome_number outcomes.Accepted = 0
+outcome_number outcomes.Repeat = 1
+outcome_number outcomes.Early = 2
+outcome_number outcomes.Unknown = 3
+outcome_number outcomes.Unsettled = 4

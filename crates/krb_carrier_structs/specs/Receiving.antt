@@ -6,9 +6,8 @@ use Rattle.krb_engine.specs.declared.receiving.Receiving.{Receiving}
 use Rattle.krb_carrier_structs.specs.declared.receiving.KrbRow.{KrbRow}
 use Rattle.krb_carrier_structs.specs.declared.receiving.KrbSeen.{KrbSeen}
 use Rattle.krb_carrier_structs.specs.declared.receiving.KrbReceiving.{KrbReceiving}
-use Rattle.krb_carrier_structs.specs.Numbers.{told_asks}
+use Rattle.krb_carrier_structs.specs.Numbers.{says, told_asks}
 use Rattle.krb_carrier_structs.specs.Pause.{told_pause}
-use Rattle.krb_carrier_structs.specs.Place.{says}
 
 -- the row that the struct tells, and the struct of a row
 abbrev pub told_row : KrbRow → Row

@@ -6,9 +6,8 @@ use Rattle.krb_engine.specs.Parts.{end_of_parts}
 use Rattle.krb_engine.specs.SendingState.{SendingState, IsEnd}
 use Rattle.krb_carrier_structs.specs.declared.pause.KrbPause.{KrbPause}
 use Rattle.krb_carrier_structs.specs.declared.sending.KrbSending.{KrbSending}
-use Rattle.krb_carrier_structs.specs.Numbers.{told_ended}
+use Rattle.krb_carrier_structs.specs.Numbers.{says, told_ended}
 use Rattle.krb_carrier_structs.specs.Pause.{told_pause}
-use Rattle.krb_carrier_structs.specs.Place.{says}
 
 -- a pause, if the flag says so
 abbrev pub when : ℕ → KrbPause → Option Pause

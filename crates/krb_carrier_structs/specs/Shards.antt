@@ -6,7 +6,7 @@ use Rattle.krb_engine.specs.declared.shards.Reading.{Reading}
 use Rattle.krb_carrier_structs.specs.declared.shards.KrbFlow.{KrbFlow}
 use Rattle.krb_carrier_structs.specs.declared.shards.KrbSpot.{KrbSpot}
 use Rattle.krb_carrier_structs.specs.declared.shards.KrbReading.{KrbReading}
-use Rattle.krb_carrier_structs.specs.Place.{says}
+use Rattle.krb_carrier_structs.specs.Numbers.{says}
 
 abbrev pub told_flow : KrbFlow → Flow
 told_flow f = record {

@@ -4,7 +4,7 @@ use Rattle.krb_engine.specs.declared.stream.Head.{Head}
 use Rattle.krb_engine.specs.declared.stream.Opening.{Opening}
 use Rattle.krb_carrier_structs.specs.declared.stream.KrbHead.{KrbHead}
 use Rattle.krb_carrier_structs.specs.declared.stream.KrbOpening.{KrbOpening}
-use Rattle.krb_carrier_structs.specs.Place.{says}
+use Rattle.krb_carrier_structs.specs.Numbers.{says}
 
 -- the last session that the store has, if it has one
 abbrev pub told_head : KrbHead → Option Head

@@ -9,7 +9,6 @@
 mod command;
 mod numbers;
 mod pause;
-mod place;
 mod progress;
 mod receipt;
 mod receiving;
@@ -18,9 +17,10 @@ mod shards;
 mod stream;
 
 pub use command::KrbCommand;
-pub use numbers::{number_of_heard, number_of_judged, number_of_read, number_of_stands};
+pub use numbers::{
+    number_of_heard, number_of_judged, number_of_outcome, number_of_read, number_of_stands,
+};
 pub use pause::KrbPause;
-pub use place::{KrbPlace, KrbTaken, number_of};
 pub use progress::KrbProgress;
 pub use receipt::{KrbReceipt, receipt_told};
 pub use receiving::{KrbReceiving, KrbRow, KrbSeen};

@@ -1,9 +1,9 @@
 //! The numbers of the header's enums for the ends of a carrier.
 
 ghost use Rattle.std.specs.Prelude.{◌≡◌, ◌≤◌};
-ghost use Rattle.krb_carrier_structs.specs.Numbers.{heard_number, judged_number, read_number, stands_number, told_asks, told_ended};
+ghost use Rattle.krb_carrier_structs.specs.Numbers.{heard_number, judged_number, outcome_number, read_number, stands_number, told_asks, told_ended};
 
-use krb_engine::{Asks, Ended, Heard, Judged, Read, Stands};
+use krb_engine::{Asks, Ended, Heard, Judged, Outcome, Read, Stands};
 
 /// What a receipt that is owed asks for, and 0 where none is owed.
 pub fn number_of_owed(owed: Option<Asks>) -> u32
@@ -97,5 +97,18 @@ pub fn number_of_judged(judged: Judged) -> u32
         Judged::Begins => 0,
         Judged::Later => 1,
         Judged::Forked => 2,
+    }
+}
+
+/// The number of what a frame is taken for.
+pub fn number_of_outcome(outcome: Outcome) -> u32
+    ensures value { result ≡ outcome_number outcome }
+{
+    match outcome {
+        Outcome::Accepted => 0,
+        Outcome::Repeat => 1,
+        Outcome::Early => 2,
+        Outcome::Unknown => 3,
+        Outcome::Unsettled => 4,
     }
 }

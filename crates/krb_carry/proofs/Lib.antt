@@ -2,9 +2,7 @@ pub mod StoreLemmas
 pub mod ShardLemmas
 pub mod ProgressLemmas
 pub mod ReadingLemmas
-pub mod PlaceLemmas
 pub mod PublishedLemmas
 pub mod OutboxLemmas
 pub mod TwiceLemmas
 pub mod DeliveryLemmas
-pub mod PlacedLemmas

@@ -12,10 +12,6 @@ use Rattle.krb_peers.specs.Verdicts.{delivered}
 use Rattle.krb_carry.specs.Outbox.{texts_put, has_close_put, numbered, Outbox, new_outbox}
 use Rattle.krb_carry.specs.Outbox.{records_in, sealed_in, stored_records}
 use Rattle.krb_carry.specs.Outbox.{MayLeave, Sealing, Act, IsAct, with_frames, LeadsOutbox}
-use Rattle.krb_carry.specs.declared.place.Missed.TheVariants as misses
-use Rattle.krb_carry.specs.declared.place.Place.{Place}
-use Rattle.krb_carry.specs.declared.place.Taken.{Taken}
-use Rattle.krb_carry.specs.Place.{moved, Taking, PlacedShard, unread, Step, Take, Again, Steps, LeadsPlaced}
 use Rattle.krb_carry.specs.Progress.{Happening, Rewind, new_progress, resumed, after, after_all, IsTruthful, IsPublished}
 use Rattle.krb_carry.specs.Progress.{IsCounted, StandInTurn}
 use Rattle.krb_carry.specs.ProgressState.{ProgressState}
@@ -172,82 +168,6 @@ abbrev pub ReceiptsStayTrue : Type 0
 ReceiptsStayTrue =
     (attempts : List Attempt) (old new : Stored) (number : ℕ)
     → Leads old attempts new → IsReceipt old number → IsReceipt new number
-
--- ---- places
-
--- It holds of any history of a session of a shard that is read, refused and read again. Any attempts
--- came before, and all below `done` took effect then.
-abbrev pub OfPlaces : ((sealer : SealerState) (records : List Record) (session : ℕ)
-    (shard : List Item) (done : ℕ) (progress : ProgressState)
-    → StandInTurn sealer records session shard done progress → PlacedShard → Type 0) → Type 0
-OfPlaces Claim =
-    (sealer : SealerState) (records : List Record) (session : ℕ) (shard : List Item) (done : ℕ)
-    (progress : ProgressState) (turn : StandInTurn sealer records session shard done progress)
-    (attempts : List Attempt) (then : Stored) (steps : List Step) (placed : PlacedShard)
-    → AreRecords records → FitLimits records
-    → All (IsAttempt sealer records) attempts → Leads (new_session sealer) attempts then
-    → IsReceipt then done → LeadsPlaced sealer records session shard (unread then) steps placed
-    → Claim sealer records session shard done progress turn placed
-
--- a frame that counts as carried, and whose record wasn't accepted, stands after the place
-abbrev pub NothingIsPassedBy : Type 0
-NothingIsPassedBy = OfPlaces (λ sealer records session shard done progress turn placed.
-    (k : ℕ) → IsCounted sealer done progress k → placed.session.demand.expected ≤ sealer.next + k
-    → placed.place.at ≤ turn.place k)
-
--- Unless something isn't settled, each frame that counts as carried and stands before the offset was
--- accepted: what a receiver rests on that doesn't read the shard again.
-abbrev pub NothingIsMissed : Type 0
-NothingIsMissed = OfPlaces (λ sealer records session shard done progress turn placed.
-    (k : ℕ) → IsCounted sealer done progress k → placed.place.missed ≢ misses.Unsettled
-    → turn.place k < placed.offset → sealer.next + k < placed.session.demand.expected)
-
--- so all texts took effect once all frames count as carried, and receivers that agree have read the
--- shard on, from the place or before it, past the last frame
-abbrev pub AllTakesEffectFromThePlace : Type 0
-AllTakesEffectFromThePlace = OfPlaces (λ sealer records session shard done progress turn placed.
-    (from : ℕ) (readings : List Reading) (stored : StoredShard)
-    → from ≤ placed.place.at → All (IsReading sealer records session shard) readings
-    → LeadsReading (record { offset = from; session = placed.session }) readings stored
-    → progress.at ≤ stored.offset → progress.carried ≡ sealer.next + length records
-    → (stored.session.effects ≡ texts_of_all records)
-    × DemandsAfter sealer records (length records) stored.session.demand)
-
--- an accepted frame moves the place to it, unless something isn't settled
-abbrev pub AcceptedMovesThePlace : Type 0
-AcceptedMovesThePlace =
-    (place : Place) (offset : ℕ) (taken : Taken)
-    → taken.accepted ≡ true → place.missed ≢ misses.Unsettled
-    → ((moved place offset taken).at ≡ offset)
-    × ((moved place offset taken).missed ≡ misses.Nothing)
-
--- A history with a refusal in it, of one session. A receiver refuses the first frame for a reason of its
--- own, and that is said. The shard is read again from the session's place, and a receiver takes all that
--- is sealed. Then the place is past all of it, nothing is missed, and all texts took effect.
-pub record HasPlaced (sealer : SealerState) (sealed : List Sealed) : Type 0 where
-  pub shard : List Item
-  pub happenings : List Happening
-  pub are_true : All (IsTruthful sealer (records_in sealed) 0 shard) happenings
-  pub carried : (after_all (new_progress sealer.next) happenings).carried
-      ≡ sealer.next + length (records_in sealed)
-  pub refused : Taking
-  pub is_refused : is_ok refused.verdict ≡ false
-  pub between : PlacedShard
-  pub first : Steps sealer (records_in sealed) 0 shard (unread (new_session sealer)) (Take refused) between
-  pub unsettled : between.place.missed ≡ misses.Unsettled
-  pub steps : List Step
-  pub placed : PlacedShard
-  pub rest : LeadsPlaced sealer (records_in sealed) 0 shard between (Again 0 ∷ steps) placed
-  pub at : placed.place.at ≡ length shard
-  pub missed : placed.place.missed ≡ misses.Nothing
-  pub effects : placed.session.effects ≡ texts_of_all (records_in sealed)
-
--- there is one, of whatever is sealed, with a receiver that can take it
-abbrev pub PlacesHappen : Type 0
-PlacesHappen =
-    (sealer : SealerState) (sealed : List Sealed) (receiver : ReceiverState) (nows : List ℕ)
-    → CanTakeAll sealer (records_in sealed) sealed receiver nows → sealed ≢ []
-    → HasPlaced sealer sealed
 
 -- ---- an outbox from which any number of processes seal
 

@@ -3,6 +3,5 @@ pub mod Shard
 pub mod ProgressState
 pub mod Progress
 pub mod Reading
-pub mod Place
 pub mod Outbox
 pub mod Laws

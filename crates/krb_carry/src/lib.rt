@@ -7,11 +7,11 @@
 //! changed or made up.
 //!
 //! [`delivery_laws`] is the promise: each text takes effect at most once and in order, and exactly
-//! once if the shard keeps it and it is read in time. It follows from four rules, each of which has
+//! once if the shard keeps it and it is read in time. It follows from three rules, each of which has
 //! laws of its own: compare-and-set at the store ([`store_laws`]), one frame for each number at the
-//! outbox ([`outbox_laws`]), the rule of carried frames ([`progress_laws`]), which [`Progress`] keeps,
-//! and the rule of places ([`place_laws`]), which [`Place`] keeps. A database's transactions and a carrier's log are what the definitions say of them: no code
-//! of theirs is proved here.
+//! outbox ([`outbox_laws`]), and the rule of carried frames ([`progress_laws`]), which [`Progress`] keeps.
+//! A database's transactions and a carrier's log are what the definitions say of them: no code of theirs
+//! is proved here.
 //!
 //! All of these stand on what krb_peers claims of any frames
 //! ([`frames_laws`](krb_peers::frames_laws)): a session has one record under each number, whoever
@@ -19,11 +19,9 @@
 #![tactic(auto)]
 
 mod outbox;
-mod place;
 mod progress;
 mod store;
 
 pub use outbox::{delivery_laws, outbox_laws};
-pub use place::{Missed, Outcome, Place, Taken, place_laws};
 pub use progress::{Progress, progress_laws};
 pub use store::store_laws;

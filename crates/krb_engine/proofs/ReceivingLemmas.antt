@@ -1,18 +1,17 @@
 -- A session's end at a receiver goes with what is stored.
-use Rattle.std.proofs.Common.{◌≡◌, ℕ, suc, ◌+◌, ◌-◌, ◌<◌, ◌≤◌, ◌==◌, nat_lt, ◌&&◌, not, if◌then◌else◌, Bool, true, false, Option, Some, None, List, [], ◌∷◌, ◌++◌, length, take, refl, sym, ap, subst, ◌∙◌, ◌↔◌, inl, inr, arith, length-append, append_assoc, append-nil}
+use Rattle.std.proofs.Common.{◌≡◌, ℕ, suc, ◌+◌, ◌-◌, ◌<◌, ◌≤◌, ◌==◌, nat_lt, if◌then◌else◌, Bool, true, false, Option, Some, None, List, [], ◌∷◌, ◌++◌, length, take, refl, sym, ap, subst, ◌∙◌, ◌↔◌, inl, inr, arith, length-append, append_assoc, append-nil}
 use Rattle.std.proofs.lemmas.List.{take_all}
 use Rattle.std.proofs.lemmas.Bool.{true≢false, lt-ltb, le-ltb}
-use Rattle.krb_carry.specs.Place.{by_number}
-use Rattle.krb_carry.specs.declared.place.Outcome.{Outcome}
-use Rattle.krb_carry.specs.declared.place.Outcome.TheVariants.{Accepted, Repeat, Early, Unknown, Unsettled}
 use Rattle.krb_history.specs.History.{no_history, with_frames, with_frame as with_tag}
 use Rattle.krb_copies.specs.declared.receipt.Receipt.{Receipt}
 use Rattle.krb_copies.specs.Receipt.{below, history_of, history_below, IsTrue}
 use Rattle.krb_engine.specs.declared.sending.Asks.{Asks}
+use Rattle.krb_engine.specs.declared.receiving.Outcome.{Outcome}
+use Rattle.krb_engine.specs.declared.receiving.Outcome.TheVariants.{Accepted, Repeat, Early, Unknown, Unsettled}
 use Rattle.krb_engine.specs.declared.receiving.Row.{Row}
 use Rattle.krb_engine.specs.declared.receiving.Seen.{Seen}
 use Rattle.krb_engine.specs.declared.receiving.Receiving.{Receiving}
-use Rattle.krb_engine.specs.Receiving.{outcome, after_frame, drafted_after, took, stored, dropped, answered}
+use Rattle.krb_engine.specs.Receiving.{by_number, outcome, after_frame, drafted_after, took, stored, dropped, answered}
 use Rattle.krb_engine.specs.Calls.{AnswersReceipt}
 use Rattle.krb_engine.specs.ReceivingLaws.{IsRowOf, Store, IsEndAt, Call, Take, Commit, Drop, Ask, with_frame, after_call, AnswersCall, LeadsReceiving, GoesWithTheStore, ReceiptsAreTrue, AcceptsInTurn, RefusesByNumber}
 
@@ -96,7 +95,7 @@ receipts_are_true first store old calls last between now receipt it new is leads
 
 -- ---- what a frame is taken for
 
-refusal_differs : (demanded : ℕ) (opened : Option ℕ) → by_number demanded opened true ≡ Accepted → ⊥
+refusal_differs : (demanded : ℕ) (opened : Option ℕ) → by_number demanded opened ≡ Accepted → ⊥
 refusal_differs demanded (Some number) same = by_tests (nat_lt number demanded) (nat_lt demanded number) same
   where
     by_tests : (a b : Bool) → (if a then Repeat else (if b then Early else Unsettled)) ≡ Accepted → ⊥
@@ -105,7 +104,7 @@ refusal_differs demanded (Some number) same = by_tests (nat_lt number demanded) 
     by_tests false false same = cc
 refusal_differs demanded None same = cc
 
-accepted_is : (a c : Bool) (demanded : ℕ) (opened : Option ℕ) → ((if a && not c then Accepted else (if c then Repeat else by_number demanded opened true)) ≡ Accepted) ↔ ((a ≡ true) × (c ≡ false))
+accepted_is : (a c : Bool) (demanded : ℕ) (opened : Option ℕ) → ((if c then Repeat else (if a then Accepted else by_number demanded opened)) ≡ Accepted) ↔ ((a ≡ true) × (c ≡ false))
 accepted_is true false demanded opened = (λ same. (refl, refl), λ is. refl)
 accepted_is true true demanded opened = (λ same. absurd (let e : Repeat ≡ Accepted = same in cc), λ is. absurd (true≢false is.1))
 accepted_is false true demanded opened = (λ same. absurd (let e : Repeat ≡ Accepted = same in cc), λ is. absurd (true≢false is.1))
@@ -115,20 +114,20 @@ pub accepts_in_turn : AcceptsInTurn
 accepts_in_turn row seen = accepted_is seen.accepted row.closed row.demanded.number seen.opened
 
 refused_is : (a c : Bool) (demanded : ℕ) (opened : Option ℕ) → a ≡ false → c ≡ false
-    → (if a && not c then Accepted else (if c then Repeat else by_number demanded opened true)) ≡ by_number demanded opened true
+    → (if c then Repeat else (if a then Accepted else by_number demanded opened)) ≡ by_number demanded opened
 refused_is true c demanded opened none goes_on = absurd (true≢false none)
 refused_is false true demanded opened none goes_on = absurd (true≢false goes_on)
 refused_is false false demanded opened none goes_on = refl
 
-repeat_is : (demanded number : ℕ) → number < demanded → by_number demanded (Some number) true ≡ Repeat
+repeat_is : (demanded number : ℕ) → number < demanded → by_number demanded (Some number) ≡ Repeat
 repeat_is demanded number lt = ap (λ t. if t then Repeat else (if nat_lt demanded number then Early else Unsettled)) (lt-ltb number demanded lt)
 
-early_is : (demanded number : ℕ) → demanded < number → by_number demanded (Some number) true ≡ Early
+early_is : (demanded number : ℕ) → demanded < number → by_number demanded (Some number) ≡ Early
 early_is demanded number lt =
     ap (λ t. if t then Repeat else (if nat_lt demanded number then Early else Unsettled)) (le-ltb number demanded (omega (arith, lt)))
     ∙ ap (λ t. if t then Early else Unsettled) (lt-ltb demanded number lt)
 
-unsettled_is : (demanded : ℕ) → by_number demanded (Some demanded) true ≡ Unsettled
+unsettled_is : (demanded : ℕ) → by_number demanded (Some demanded) ≡ Unsettled
 unsettled_is demanded =
     ap (λ t. if t then Repeat else (if nat_lt demanded demanded then Early else Unsettled)) (le-ltb demanded demanded (omega arith))
     ∙ ap (λ t. if t then Early else Unsettled) (le-ltb demanded demanded (omega arith))
@@ -137,7 +136,7 @@ pub refuses_by_number : RefusesByNumber
 refuses_by_number row seen none goes_on =
     let demanded = row.demanded.number in
     let is = refused_is seen.accepted row.closed demanded seen.opened none goes_on in
-    let opens : (opened : Option ℕ) → seen.opened ≡ opened → outcome row seen ≡ by_number demanded opened true = λ opened at. is ∙ ap (λ o. by_number demanded o true) at in (
+    let opens : (opened : Option ℕ) → seen.opened ≡ opened → outcome row seen ≡ by_number demanded opened = λ opened at. is ∙ ap (λ o. by_number demanded o) at in (
       λ it. opens (Some it.0) it.1 ∙ repeat_is demanded it.0 it.2,
       λ it. opens (Some it.0) it.1 ∙ early_is demanded it.0 it.2,
       λ it. opens (Some demanded) it ∙ unsettled_is demanded,

@@ -1,13 +1,12 @@
 -- What each thing that happens makes of a session's end at a receiver.
-use Rattle.std.specs.Prelude.{◌≡◌, ℕ, ◌+◌, ◌&&◌, not, Bool, true, false, List, Option, Some, None, unwrap_or}
+use Rattle.std.specs.Prelude.{◌≡◌, ℕ, ◌+◌, nat_lt, Bool, true, false, List, Option, Some, None, unwrap_or}
+use Rattle.std.specs.Prelude.{if◌then◌else◌}
 use Rattle.krb_queue.specs.Pause.{begun}
-use Rattle.krb_carry.specs.Place.{outcome_of}
-use Rattle.krb_carry.specs.declared.place.Missed.TheVariants as misses
-use Rattle.krb_carry.specs.declared.place.Outcome.{Outcome}
-use Rattle.krb_carry.specs.declared.place.Outcome.TheVariants.{Accepted, Repeat, Early, Unknown, Unsettled}
 use Rattle.krb_history.specs.History.{with_frame}
 use Rattle.krb_engine.specs.declared.sending.Asks.{Asks}
 use Rattle.krb_engine.specs.declared.sending.Asks.TheVariants as asks
+use Rattle.krb_engine.specs.declared.receiving.Outcome.{Outcome}
+use Rattle.krb_engine.specs.declared.receiving.Outcome.TheVariants.{Accepted, Repeat, Early, Unknown, Unsettled}
 use Rattle.krb_engine.specs.declared.receiving.Row.{Row}
 use Rattle.krb_engine.specs.declared.receiving.Seen.{Seen}
 use Rattle.krb_engine.specs.declared.receiving.Receiving.{Receiving}
@@ -16,16 +15,18 @@ use Rattle.krb_engine.specs.declared.receiving.Receiving.{Receiving}
 abbrev pub has_row : Row → ℕ → Receiving
 has_row row now = record { stored = row; drafted = row; is_open = false; owed = None; paid = begun 0 now }
 
--- What a frame is taken for, by krb_carry, where the key is known to be the session's. Nothing is accepted
--- after the close.
+-- what a refused frame is taken for, by the number at which it opens if nothing is demanded of its
+-- number, time and addresses
+abbrev pub by_number : ℕ → Option ℕ → Outcome
+by_number demanded (Some number) =
+    if nat_lt number demanded then Repeat else (if nat_lt demanded number then Early else Unsettled)
+by_number demanded None = Unknown
+
+-- What a frame is taken for. After the close all are repeats.
 abbrev pub outcome : Row → Seen → Outcome
 outcome row seen =
-    outcome_of (record { at = 0; missed = misses.Nothing; known = true }) (record {
-      demanded = row.demanded.number;
-      closed = row.closed;
-      accepted = seen.accepted && not row.closed;
-      opened = seen.opened;
-    })
+    if row.closed then Repeat
+    else (if seen.accepted then Accepted else by_number row.demanded.number seen.opened)
 
 -- after one frame more took effect
 abbrev pub after_frame : Row → List ℕ → Bool → Row

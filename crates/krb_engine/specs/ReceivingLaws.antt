@@ -1,10 +1,10 @@
 -- What the laws of a session's end at a receiver state.
 use Rattle.std.specs.Prelude.{◌≡◌, ◌↔◌, ℕ, ◌+◌, ◌<◌, ◌≤◌, Bool, true, false, List, [], ◌∷◌, ◌++◌, length, All, Option, Some, None}
-use Rattle.krb_carry.specs.declared.place.Outcome.{Outcome}
-use Rattle.krb_carry.specs.declared.place.Outcome.TheVariants.{Accepted, Repeat, Early, Unknown, Unsettled}
 use Rattle.krb_copies.specs.declared.receipt.Receipt.{Receipt}
 use Rattle.krb_copies.specs.Receipt.{history_of, IsTrue}
 use Rattle.krb_engine.specs.declared.sending.Asks.{Asks}
+use Rattle.krb_engine.specs.declared.receiving.Outcome.{Outcome}
+use Rattle.krb_engine.specs.declared.receiving.Outcome.TheVariants.{Accepted, Repeat, Early, Unknown, Unsettled}
 use Rattle.krb_engine.specs.declared.receiving.Row.{Row}
 use Rattle.krb_engine.specs.declared.receiving.Seen.{Seen}
 use Rattle.krb_engine.specs.declared.receiving.Receiving.{Receiving}

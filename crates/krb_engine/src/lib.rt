@@ -26,7 +26,7 @@ mod stream;
 
 pub use laws::{receiving_laws, sending_laws};
 pub use parts::SendingParts;
-pub use receiving::{Receiving, Row, Seen};
+pub use receiving::{Outcome, Receiving, Row, Seen};
 pub use sending::{Asks, Command, Ended, Heard, Sending, Stands};
 pub use shards::{Flow, Read, Reading, Spot, shard_laws};
 pub use stream::{Head, Judged, Opening, judge, stream_laws};

@@ -5,13 +5,27 @@ ghost use Rattle.krb_engine.specs.Receiving.{after_frame, dropped, has_row, outc
 ghost use Rattle.krb_engine.specs.Calls.{AnswersReceipt};
 
 use crate::Asks;
-use krb_carry::{Missed, Outcome, Place, Taken};
 use krb_copies::Receipt;
 use krb_history::with_frame;
 use krb_queue::Pause;
 
 /// For how many milliseconds after a receipt no other one leaves.
 const RECEIPT: u64 = 200;
+
+/// What a frame under a session's name is taken for.
+#[derive(Clone, Copy, Debug, PartialEq, Eq)]
+pub enum Outcome {
+    /// It was accepted.
+    Accepted,
+    /// It took its effect before, or comes after the close.
+    Repeat,
+    /// It comes before its turn, and has to come again after the frame that is demanded.
+    Early,
+    /// It is no frame of the session: it doesn't open under its key.
+    Unknown,
+    /// It is the demanded one, and the reason may be this receiver's own: its clock, the skew, addresses, the mode.
+    Unsettled,
+}
 
 /// What a store has of a session.
 #[derive(Clone, Copy, Debug, PartialEq, Eq)]
@@ -112,24 +126,22 @@ impl Receiving {
     }
 }
 
-/// What a frame is taken for, by krb_carry: what doesn't open is nobody's.
+/// What a frame is taken for: what doesn't open is nobody's.
 fn outcome(row: &Row, seen: Seen) -> Outcome
     ensures { result ≡ outcome row.now seen }
 {
-    let mut place = Place {
-        at: 0,
-        missed: Missed::Nothing,
-        known: true,
-    };
-    place.take(
-        0,
-        Taken {
-            demanded: row.demanded.number,
-            closed: row.closed,
-            accepted: seen.accepted && !row.closed,
-            opened: seen.opened,
-        },
-    )
+    if row.closed {
+        return Outcome::Repeat;
+    }
+    if seen.accepted {
+        return Outcome::Accepted;
+    }
+    match seen.opened {
+        None => Outcome::Unknown,
+        Some(number) if number < row.demanded.number => Outcome::Repeat,
+        Some(number) if number > row.demanded.number => Outcome::Early,
+        Some(_) => Outcome::Unsettled,
+    }
 }
 
 /// What is stored after one frame more took effect.

@@ -1,6 +1,5 @@
 //! A queue, a pause, a session's end at a sender and at a receiver, openings, and shards.
 
-use krb_carry::Outcome;
 use krb_copies::Receipt;
 use krb_engine::{
     Asks, Command, Ended, Flow, Head, Heard, Judged, Opening, Read, Reading, Receiving, Row, Seen,

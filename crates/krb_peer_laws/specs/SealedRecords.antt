@@ -36,9 +36,8 @@ RecordsAreSealed =
     → length conf ≡ confounder_size → AreBytes conf
     → (sealed : List Sealed) × AreSealed sealer records sealed
 
--- And a new receiver can take them all: so what `attempt_laws.met` of krb_peers and `store_laws.met`,
--- `place_laws.happens` and `delivery_laws.happens` of krb_carry ask is met by any records that fit, of
--- which none follows a close.
+-- And a new receiver can take them all: so what `attempt_laws.met` of krb_peers and `store_laws.met` and
+-- `delivery_laws.happens` of krb_carry ask is met by any records that fit, of which none follows a close.
 abbrev pub RecordsCanBeTaken : Type 0
 RecordsCanBeTaken =
     (etype : Etype) (sealer : SealerState) (records : List Record) (at : ℕ) (conf : List ℕ)
