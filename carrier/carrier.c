@@ -107,6 +107,11 @@ int carrier_receipts(struct carrier *carrier, carrier_receipt *take, void *given
     return carrier->receipts(carrier, take, given);
 }
 
+void carrier_forget(struct carrier *carrier, unsigned shard, const char *session)
+{
+    carrier->forget(carrier, shard, session);
+}
+
 int carrier_is_away(struct carrier *carrier)
 {
     return carrier->is_away != NULL && carrier->is_away(carrier);

@@ -127,6 +127,10 @@ int carrier_acknowledge(struct carrier *carrier, unsigned shard, const struct ca
 typedef void carrier_receipt(void *given, const char *session, const uint8_t *receipt, size_t len);
 int carrier_receipts(struct carrier *carrier, carrier_receipt *take, void *given);
 
+/* A session has ended, and its receipt need not be kept. It may be kept all the same, where the carrier is away or
+ * doesn't allow it. */
+void carrier_forget(struct carrier *carrier, unsigned shard, const char *session);
+
 /* Whether there is no connection now: another one is tried all the time. */
 int carrier_is_away(struct carrier *carrier);
 
@@ -149,6 +153,7 @@ struct carrier {
     int (*behind)(struct carrier *, uint64_t *);
     int (*acknowledge)(struct carrier *, unsigned, const struct carried *, size_t);
     int (*receipts)(struct carrier *, carrier_receipt *, void *);
+    void (*forget)(struct carrier *, unsigned, const char *);
     int (*is_away)(struct carrier *), (*is_closed)(struct carrier *); /* NULL: it never is */
     void (*close)(struct carrier *);
 };

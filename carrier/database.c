@@ -67,8 +67,10 @@ static int wait_for_others(void *given, int tries)
 
 sqlite3 *open_database(const char *path, const char *tables)
 {
+    /* Each database is of one thread, so its calls need no lock. */
+    static const int flags = SQLITE_OPEN_READWRITE | SQLITE_OPEN_CREATE | SQLITE_OPEN_NOMUTEX;
     sqlite3 *db = NULL;
-    if (sqlite3_open(path, &db) != SQLITE_OK) {
+    if (sqlite3_open_v2(path, &db, flags, NULL) != SQLITE_OK) {
         log_fact(LEVEL_ERROR, "database_unopened", field_text("file", path),
                  field_text("fault", db != NULL ? sqlite3_errmsg(db) : "out of memory"),
                  field_text("text", "is there such a folder, and may this user write there?"));

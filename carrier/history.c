@@ -2,8 +2,6 @@
 #include "log.h"
 #include "text.h"
 
-#include <string.h>
-
 int history_add(struct history *history, const uint8_t *frame, size_t len)
 {
     enum krbrelay_answer answer = history->is_known
@@ -12,12 +10,6 @@ int history_add(struct history *history, const uint8_t *frame, size_t len)
         return 0;
     log_fact(LEVEL_ERROR, "history_unmade", field_number("answer", (uint64_t)answer));
     return -1;
-}
-
-int history_is(const struct history *one, const struct history *other)
-{
-    return one->is_known && other->is_known
-           && memcmp(one->bytes, other->bytes, sizeof one->bytes) == 0;
 }
 
 void history_write(const struct history *history, char text[HISTORY_TEXT])

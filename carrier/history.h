@@ -12,8 +12,6 @@ struct history { uint8_t bytes[KRBRELAY_HISTORY_SIZE]; int is_known; };
 /* Adds a frame to a history that is known. 0, or -1 with a report. */
 int history_add(struct history *history, const uint8_t *frame, size_t len);
 
-int history_is(const struct history *one, const struct history *other);
-
 /* A history as digits, "" for one that isn't known; and back, of which anything else isn't known. */
 enum { HISTORY_TEXT = 2 * KRBRELAY_HISTORY_SIZE + 1 };
 void history_write(const struct history *history, char text[HISTORY_TEXT]);

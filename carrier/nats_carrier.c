@@ -150,6 +150,7 @@ static void close_it(struct carrier *base)
     nats_stop_reading(c);
     natsSubscription_Destroy(c->answers);
     natsSubscription_Destroy(c->receipts);
+    natsSubscription_Destroy(c->about);
     natsInbox_Destroy(c->inbox);
     jsCtx_Destroy(c->js);
     natsConnection_Destroy(c->connection);
@@ -294,6 +295,7 @@ struct carrier *nats_carrier_open(const struct carrier_options *options)
     c->base.behind = nats_behind;
     c->base.acknowledge = nats_acknowledge;
     c->base.receipts = nats_receipts;
+    c->base.forget = nats_forget;
     c->base.is_away = is_away;
     c->base.is_closed = is_closed;
     c->base.close = close_it;

@@ -9,7 +9,9 @@
 #include <krbrelay.h>
 #include <nats/nats.h>
 
-enum { NATS_HELD = 4096 };
+enum { NATS_HELD = 4096, NATS_STREAM = 320 };
+
+#define NATS_NO_STREAM "\"err_code\":10059" /* what the answer says where there is no such stream */
 
 struct nats_carrier {
     struct carrier base;
@@ -42,7 +44,9 @@ struct nats_carrier {
     int held_count;
     int is_silent;                      /* 1: the consumer's heartbeats are missed */
     natsSubscription *receipts;         /* all that are published, from the first look on */
-    uint64_t receipts_moment;           /* their stream isn't asked for before this moment */
+    natsSubscription *about;            /* a receiver's: answers about their stream, */
+    struct krbrelay_pause asking;       /* which isn't asked for before this is over */
+    int is_asked;                       /* a question about it wasn't answered */
     int has_told_replicas;              /* it was told that it has too few replicas */
 };
 
@@ -63,6 +67,16 @@ int nats_publish(struct carrier *base, unsigned shard, const char *session, uint
                  uint64_t number, const uint8_t *frame, size_t len);
 int nats_confirmed(struct carrier *base, struct confirmed *list, size_t room, int milliseconds);
 
+/* Asks about a stream, or has it made; the answer comes to that subject, and isn't waited for. How a stream is
+ * made that keeps so many messages of each subject, -1: all. */
+void nats_ask(struct nats_carrier *c, const char *what, const char *stream, const char *reply, const char *text);
+void nats_write_stream(const struct nats_carrier *c, const char *stream, const char *subject, int of_subject,
+                       char text[NATS_STREAM]);
+
+/* Whether an answer has a word; the number after it, or 0. */
+int nats_says(natsMsg *message, const char *word);
+uint64_t nats_number_after(natsMsg *message, const char *word);
+
 /* nats_reader.c */
 void nats_seek(struct carrier *base, unsigned shard, uint64_t offset);
 int nats_fetch(struct carrier *base, struct carried *list, size_t room, int milliseconds);
@@ -73,6 +87,7 @@ void nats_stop_reading(struct nats_carrier *c);
 int nats_acknowledge(struct carrier *base, unsigned shard, const struct carried *list,
                      size_t count);
 int nats_receipts(struct carrier *base, carrier_receipt *take, void *given);
+void nats_forget(struct carrier *base, unsigned shard, const char *session);
 
 /* The options of a consumer of a stream that is kept in memory and awaits no acknowledgements: nats_carrier.c. */
 natsStatus nats_begin_to_consume(const struct nats_carrier *c, const char *stream, jsSubOptions *options,

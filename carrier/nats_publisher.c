@@ -51,14 +51,14 @@ static const char *after(natsMsg *message, const char *word, size_t *left)
     return place + size;
 }
 
-static int says(natsMsg *message, const char *word)
+int nats_says(natsMsg *message, const char *word)
 {
     size_t left;
     return after(message, word, &left) != NULL;
 }
 
 /* The number after a word; 0 if it isn't there. */
-static uint64_t number_after(natsMsg *message, const char *word)
+uint64_t nats_number_after(natsMsg *message, const char *word)
 {
     char digits[24];
     size_t left;
@@ -123,17 +123,24 @@ static uint64_t read_created(natsMsg *message)
 
 /* ---- Streams */
 
-/* Asks for a shard's stream, or has it made. */
-static void ask(struct nats_carrier *c, unsigned shard, const char *what, const char *text)
+void nats_ask(struct nats_carrier *c, const char *what, const char *stream, const char *reply, const char *text)
 {
-    char subject[64], reply[160];
+    char subject[64];
     natsStatus status;
-    write_whole(subject, sizeof subject, "$JS.API.STREAM.%s.KRB_%u", what, shard);
-    write_whole(reply, sizeof reply, "%s.%lu.%u.stream.0", (const char *)c->inbox, ++c->questions, shard);
-    c->made[shard].question = c->questions;
+    write_whole(subject, sizeof subject, "$JS.API.STREAM.%s.%s", what, stream);
     status = natsConnection_PublishRequest(c->connection, subject, reply, text, (int)strlen(text));
     if (status != NATS_OK)
         nats_report("a stream", status);
+}
+
+/* Asks for a shard's stream, or has it made. */
+static void ask(struct nats_carrier *c, unsigned shard, const char *what, const char *text)
+{
+    char stream[32], reply[160];
+    write_whole(stream, sizeof stream, "KRB_%u", shard);
+    write_whole(reply, sizeof reply, "%s.%lu.%u.stream.0", (const char *)c->inbox, ++c->questions, shard);
+    c->made[shard].question = c->questions;
+    nats_ask(c, what, stream, reply, text);
 }
 
 /* The question is answered, or waited for no longer. */
@@ -173,12 +180,21 @@ int nats_make(struct carrier *base, unsigned shard, uint64_t *incarnation)
     return c->made[shard].is_known ? 0 : CARRIER_FAULT;
 }
 
+void nats_write_stream(const struct nats_carrier *c, const char *stream, const char *subject, int of_subject,
+                       char text[NATS_STREAM])
+{
+    write_whole(text, NATS_STREAM, "{\"name\":\"%s\",\"subjects\":[\"%s\"],\"retention\":\"limits\","
+                "\"max_consumers\":-1,\"max_msgs\":-1,\"max_bytes\":-1,\"discard\":\"old\",\"max_age\":0,"
+                "\"max_msgs_per_subject\":%d,\"storage\":\"file\",\"num_replicas\":%u}", stream, subject, of_subject,
+                c->replicas);
+}
+
 static void make_stream(struct nats_carrier *c, unsigned shard)
 {
-    char text[256];
-    write_whole(text, sizeof text, "{\"name\":\"KRB_%u\",\"subjects\":[\"krb.%u.*\"],\"retention\":\"limits\","
-                "\"max_consumers\":-1,\"max_msgs\":-1,\"max_bytes\":-1,\"discard\":\"old\",\"max_age\":0,"
-                "\"storage\":\"file\",\"num_replicas\":%u}", shard, shard, c->replicas);
+    char stream[32], subject[32], text[NATS_STREAM];
+    write_whole(stream, sizeof stream, "KRB_%u", shard);
+    write_whole(subject, sizeof subject, "krb.%u.*", shard);
+    nats_write_stream(c, stream, subject, -1, text);
     ask(c, shard, "CREATE", text);
 }
 
@@ -196,13 +212,13 @@ static void report_unmade(struct nats_carrier *c, natsMsg *message, unsigned sha
 static int is_fit(struct nats_carrier *c, natsMsg *message, unsigned shard)
 {
     char name[32];
-    jsStreamConfig config = { .Retention = says(message, "\"retention\":\"limits\"") ? js_LimitsPolicy
+    jsStreamConfig config = { .Retention = nats_says(message, "\"retention\":\"limits\"") ? js_LimitsPolicy
                                                                                    : js_WorkQueuePolicy,
-                              .Storage = says(message, "\"storage\":\"file\"") ? js_FileStorage
+                              .Storage = nats_says(message, "\"storage\":\"file\"") ? js_FileStorage
                                                                               : js_MemoryStorage };
-    config.MaxMsgsPerSubject = says(message, "\"max_msgs_per_subject\":-1")
-                                   ? -1 : (int64_t)number_after(message, "\"max_msgs_per_subject\":");
-    config.Replicas = (int64_t)number_after(message, "\"num_replicas\":");
+    config.MaxMsgsPerSubject = nats_says(message, "\"max_msgs_per_subject\":-1")
+                                   ? -1 : (int64_t)nats_number_after(message, "\"max_msgs_per_subject\":");
+    config.Replicas = (int64_t)nats_number_after(message, "\"num_replicas\":");
     write_whole(name, sizeof name, "KRB_%u", shard);
     return nats_judge_stream(c, name, &config) == NATS_OK;
 }
@@ -211,9 +227,9 @@ static int is_fit(struct nats_carrier *c, natsMsg *message, unsigned shard)
 static void read_stream(struct nats_carrier *c, natsMsg *message, unsigned shard)
 {
     uint64_t created = read_created(message);
-    if (says(message, "\"error\":")) {
+    if (nats_says(message, "\"error\":")) {
         c->made[shard].is_known = 0;
-        if (says(message, "\"err_code\":10059")) { /* there is none */
+        if (nats_says(message, NATS_NO_STREAM)) {
             make_stream(c, shard);
             return;
         }
@@ -252,13 +268,13 @@ int nats_publish(struct carrier *base, unsigned shard, const char *session, uint
 static int read_answer(natsMsg *message, unsigned shard, struct confirmed *it)
 {
     char fault[ANSWER];
-    if (says(message, "\"error\"")) {
+    if (nats_says(message, "\"error\"")) {
         read_description(message, fault);
         log_fact(LEVEL_WARNING, "stream_takes_nothing", field_number("shard", shard), field_text("fault", fault),
                  field_text("text", "tried again"));
         return 0;
     }
-    it->offset = number_after(message, "\"seq\":");
+    it->offset = nats_number_after(message, "\"seq\":");
     return it->offset > 0;
 }
 

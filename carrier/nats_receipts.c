@@ -9,40 +9,89 @@
 #include <string.h>
 
 #define STREAM "KRB_RECEIPTS"
-#define SECOND UINT64_C(1000000000) /* nanoseconds */
+#define SUBJECTS "krbr.*.*"
 
-static natsStatus add_stream(struct nats_carrier *c)
-{
-    const char *subjects[1] = { "krbr.*.*" };
-    jsStreamInfo *info = NULL;
-    jsStreamConfig config;
-    jsErrCode code = 0;
-    natsStatus status = jsStreamConfig_Init(&config);
-    config.Name = STREAM;
-    config.Subjects = subjects;
-    config.SubjectsLen = 1;
-    config.Storage = js_FileStorage;
-    config.MaxMsgsPerSubject = 1;
-    config.Replicas = c->replicas;
-    if (status == NATS_OK)
-        status = js_AddStream(&info, c->js, &config, NULL, &code);
-    jsStreamInfo_Destroy(info);
-    return status;
-}
+enum { AGAIN = 10000 }; /* milliseconds after which the stream is looked for again */
 
 /* Tells once that a node's end would take the receipts with it. */
-static void check_replicas(struct nats_carrier *c, const jsStreamInfo *info)
+static void check_replicas(struct nats_carrier *c, uint64_t replicas)
 {
-    if (info->Config->Replicas >= (int64_t)c->replicas || c->has_told_replicas)
+    if (replicas >= c->replicas || c->has_told_replicas)
         return;
     c->has_told_replicas = 1;
     log_fact(LEVEL_WARNING, "receipts_unfit", field_text("stream", STREAM),
-             field_number("replicas", (uint64_t)info->Config->Replicas),
-             field_number("wanted", c->replicas),
+             field_number("replicas", replicas), field_number("wanted", c->replicas),
              field_text("text", "it has fewer replicas than --replicas asks for: change the stream"));
 }
 
-/* Asks what the stream is, and how many receipts it keeps, and not again for a while. */
+/* ---- A receiver: it waits for no answer */
+
+/* Asks about the stream. What was asked before and wasn't answered is told. */
+static void ask(struct nats_carrier *c, const char *what, const char *text)
+{
+    char reply[128];
+    if (c->is_asked)
+        (void)nats_report("the stream of receipts", NATS_TIMEOUT); /* CARRIER_FAULT, as for each fault */
+    write_whole(reply, sizeof reply, "%s.receipts", (const char *)c->inbox);
+    c->is_asked = 1;
+    nats_ask(c, what, STREAM, reply, text);
+}
+
+/* What was answered: the stream is made if there is none. */
+static void read_about(struct nats_carrier *c, natsMsg *message)
+{
+    char text[NATS_STREAM];
+    c->is_asked = 0;
+    if (nats_says(message, NATS_NO_STREAM)) {
+        nats_write_stream(c, STREAM, SUBJECTS, 1, text);
+        ask(c, "CREATE", text);
+    } else if (nats_says(message, "\"error\":")) {
+        (void)nats_report("the stream of receipts", NATS_ERR); /* as above */
+    } else {
+        check_replicas(c, nats_number_after(message, "\"num_replicas\":"));
+    }
+}
+
+/* Looks for the stream from time to time, and makes it: what is published meanwhile is heard all the same. */
+static natsStatus look_for_stream(struct nats_carrier *c)
+{
+    char subject[128];
+    natsStatus status = NATS_OK;
+    if (c->about == NULL) {
+        write_whole(subject, sizeof subject, "%s.receipts", (const char *)c->inbox);
+        status = natsConnection_SubscribeSync(&c->about, c->connection, subject);
+    }
+    while (status == NATS_OK) {
+        natsMsg *message = NULL;
+        status = natsSubscription_NextMsg(&message, c->about, 0);
+        if (status == NATS_OK)
+            read_about(c, message);
+        natsMsg_Destroy(message);
+    }
+    if (krbrelay_pause_is_over(&c->asking, milliseconds())) {
+        krbrelay_pause_begin(&c->asking, AGAIN, milliseconds());
+        ask(c, "INFO", "");
+    }
+    return status == NATS_TIMEOUT || status == NATS_NO_RESPONDERS ? NATS_OK : status;
+}
+
+int nats_acknowledge(struct carrier *base, unsigned shard, const struct carried *list,
+                     size_t count)
+{
+    struct nats_carrier *c = (struct nats_carrier *)base;
+    char subject[64];
+    natsStatus status = look_for_stream(c);
+    size_t i;
+    for (i = 0; i < count && status == NATS_OK; i++) {
+        write_whole(subject, sizeof subject, "krbr.%u.%s", shard, list[i].session);
+        status = natsConnection_Publish(c->connection, subject, list[i].frame, (int)list[i].len);
+    }
+    return status == NATS_OK ? 0 : nats_report("a receipt", status);
+}
+
+/* ---- A sender */
+
+/* Asks what the stream is, and how many receipts it keeps. */
 static natsStatus ask_stream(struct nats_carrier *c, uint64_t *count)
 {
     jsStreamInfo *info = NULL;
@@ -53,44 +102,11 @@ static natsStatus ask_stream(struct nats_carrier *c, uint64_t *count)
         status = js_GetStreamInfo(&info, c->js, STREAM, &options, &code);
     nats_note_asked(c, status);
     if (status == NATS_OK) {
-        check_replicas(c, info);
+        check_replicas(c, (uint64_t)info->Config->Replicas);
         *count = info->State.Msgs;
     }
     jsStreamInfo_Destroy(info);
-    c->receipts_moment = nanoseconds() + 10 * SECOND;
     return status;
-}
-
-/* Makes the stream, unless it is there, and looks for it again after a while: what is published
- * meanwhile is heard all the same. */
-static void make_stream(struct nats_carrier *c)
-{
-    uint64_t count = 0;
-    natsStatus status;
-    if (nanoseconds() < c->receipts_moment)
-        return;
-    status = ask_stream(c, &count);
-    if (status == NATS_NOT_FOUND)
-        status = add_stream(c);
-    if (status != NATS_OK)
-        (void)nats_report("the stream of receipts", status); /* CARRIER_FAULT, as for each fault */
-}
-
-int nats_acknowledge(struct carrier *base, unsigned shard, const struct carried *list,
-                     size_t count)
-{
-    struct nats_carrier *c = (struct nats_carrier *)base;
-    char subject[64];
-    size_t i;
-    make_stream(c);
-    for (i = 0; i < count; i++) {
-        natsStatus status;
-        write_whole(subject, sizeof subject, "krbr.%u.%s", shard, list[i].session);
-        status = natsConnection_Publish(c->connection, subject, list[i].frame, (int)list[i].len);
-        if (status != NATS_OK)
-            return nats_report("a receipt", status);
-    }
-    return 0;
 }
 
 /* Passes a message's receipt. */
@@ -112,7 +128,7 @@ static natsStatus subscribe(struct nats_carrier *c, natsSubscription **reader)
     if (status != NATS_OK)
         return status;
     options.Config.DeliverPolicy = js_DeliverLastPerSubject;
-    return js_SubscribeSync(reader, c->js, "krbr.*.*", &wait, &options, &code);
+    return js_SubscribeSync(reader, c->js, SUBJECTS, &wait, &options, &code);
 }
 
 /* How many messages come after one of a consumer. */
@@ -147,7 +163,7 @@ static natsStatus read_kept(struct nats_carrier *c, carrier_receipt *take, void 
 /* Begins to hear them, and reads what is kept: without it a sender hears what it needs by its probes. */
 static natsStatus begin_to_hear(struct nats_carrier *c, carrier_receipt *take, void *given)
 {
-    natsStatus status = natsConnection_SubscribeSync(&c->receipts, c->connection, "krbr.*.*"), kept;
+    natsStatus status = natsConnection_SubscribeSync(&c->receipts, c->connection, SUBJECTS), kept;
     uint64_t count = 0;
     if (status != NATS_OK)
         return status;
@@ -171,4 +187,16 @@ int nats_receipts(struct carrier *base, carrier_receipt *take, void *given)
         natsMsg_Destroy(message);
     }
     return status == NATS_TIMEOUT ? 0 : nats_report("receipts", status);
+}
+
+/* Nothing waits for an answer: what is left is read by senders that begin, and does nothing. */
+void nats_forget(struct carrier *base, unsigned shard, const char *session)
+{
+    struct nats_carrier *c = (struct nats_carrier *)base;
+    char text[96];
+    natsStatus status;
+    write_whole(text, sizeof text, "{\"filter\":\"krbr.%u.%s\"}", shard, session);
+    status = natsConnection_PublishString(c->connection, "$JS.API.STREAM.PURGE." STREAM, text);
+    if (status != NATS_OK)
+        (void)nats_report("a receipt", status); /* CARRIER_FAULT, as for each fault */
 }

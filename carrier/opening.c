@@ -69,7 +69,8 @@ int opening_draw(struct kerberos *k, struct opened *it)
     return code == 0 ? 0 : kerberos_report(k, "key_undrawn", code);
 }
 
-int opening_back(struct kerberos *k, const struct opened *it, uint8_t back[SESSION_KEY])
+/* The key of the way back, which follows from the session's key. */
+static int derive_back(struct kerberos *k, const struct opened *it, uint8_t back[SESSION_KEY])
 {
     char label[] = "krbrelay receipts";
     krb5_data in = { KV5M_DATA, sizeof label - 1, label };
@@ -82,6 +83,21 @@ int opening_back(struct kerberos *k, const struct opened *it, uint8_t back[SESSI
         memcpy(back, derived->contents, derived->length);
     krb5_free_keyblock(k->context, derived);
     return code == 0 ? 0 : kerberos_report(k, "key_underived", code);
+}
+
+/* The two ends of such a session have RFC 4120's directional addresses. */
+static struct krbrelay_address end_of(uint8_t which)
+{
+    return (struct krbrelay_address){ .kind = KRBRELAY_DIRECTIONAL, .len = 4, .bytes = { 0, 0, 0, which } };
+}
+
+int opening_session(struct kerberos *k, const struct opened *it, unsigned shard, struct session *of)
+{
+    *of = (struct session){ .shard = shard, .etype = it->etype, .mode = KRBRELAY_PRIV, .key_len = it->key_len,
+                            .first = 1, .has_opening = 1, .has_back = 1, .from = end_of(0), .to = end_of(1) };
+    memcpy(of->name, it->name, sizeof of->name);
+    memcpy(of->key, it->key, it->key_len);
+    return derive_back(k, it, of->back);
 }
 
 /* ---- The text */

@@ -21,6 +21,7 @@
 #include "carrier.h"
 #include "history.h"
 #include "kerberos.h"
+#include "sessions.h"
 
 /* A session that begins by a ticket. */
 struct opened {
@@ -65,8 +66,9 @@ int opening_is(const uint8_t *frame, size_t len);
 /* Draws the key of a session, and makes the name that follows from it. 0, or -1 with a report. */
 int opening_draw(struct kerberos *kerberos, struct opened *it);
 
-/* The key of the way back, which follows from the session's key. 0, or -1 with a report. */
-int opening_back(struct kerberos *kerberos, const struct opened *it, uint8_t back[SESSION_KEY]);
+/* The session as those of the file are; the key of the way back follows from its key. 0, or -1 with a report. The
+ * caller overwrites it. */
+int opening_session(struct kerberos *kerberos, const struct opened *it, unsigned shard, struct session *of);
 
 /* Takes an opening that came under this name. It doesn't look for other sessions of the stream. The
  * caller overwrites the key. */

@@ -113,8 +113,11 @@ static const char *const sql[OUTBOX_STATEMENTS] = {
     [SET_RENEWED] = "UPDATE owner SET renewed = ?",
     [SELECT_RENEWED] = "SELECT renewed FROM owner",
     [CLOSE_OPENED] = "UPDATE opened SET closed = 1 WHERE name = ?",
-    [DROP_OPENED] = ("DELETE FROM opened WHERE stream = ?1 AND turn < ?2 AND NOT EXISTS"
-                     " (SELECT 1 FROM frame WHERE session = opened.name)"),
+    [SELECT_ENDED] = ("SELECT name, shard FROM opened WHERE stream = ?1 AND turn < ?2 - 1 AND NOT EXISTS"
+                      " (SELECT 1 FROM opened AS near JOIN frame ON frame.session = near.name"
+                      " WHERE near.stream = ?1 AND near.turn IN (opened.turn, opened.turn + 1)) LIMIT ?3"),
+    [DROP_OPENED] = "DELETE FROM opened WHERE name = ?",
+    [FORGET_SESSION] = "DELETE FROM session WHERE name = ? AND done = next",
 };
 
 static sqlite3_int64 owner(struct outbox *o)
@@ -402,8 +405,13 @@ int outbox_set_carried(struct outbox *o, const char *session, const struct outbo
     bind_number(set, 4, it->shard);
     bind_text(set, 5, session);
     bind_number(set, 6, (sqlite3_int64)it->done);
-    return step_once(set) == 0 && drop_below(&o->statements[DROP_FRAMES], session, it->done) == 0
-                   && drop_below(&o->statements[DROP_SEALED], session, it->done) == 0
+    return step_once(set);
+}
+
+int outbox_drop_done(struct outbox *o, const char *session, uint64_t done)
+{
+    return drop_below(&o->statements[DROP_FRAMES], session, done) == 0
+                   && drop_below(&o->statements[DROP_SEALED], session, done) == 0
                ? 0 : -1;
 }
 

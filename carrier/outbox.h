@@ -37,7 +37,7 @@ enum outbox_statement {
     ADD_SEALED, DROP_SEALED,
     SET_NEXT, SET_CARRIED, SELECT_OWNER, SELECT_SENDING, ADD_STOPPED, DROP_STOPPED, END_STOPPED,
     COUNT_STOPPED, COUNT_TEXTS,
-    OLDEST_TEXT, ADD_OPENED, SELECT_OPENED, SELECT_STREAM, CLOSE_OPENED, DROP_OPENED,
+    OLDEST_TEXT, ADD_OPENED, SELECT_OPENED, SELECT_STREAM, CLOSE_OPENED, SELECT_ENDED, DROP_OPENED, FORGET_SESSION,
     SELECT_WRAPPED, SET_RENEWED, SELECT_RENEWED, OUTBOX_STATEMENTS
 };
 
@@ -128,9 +128,10 @@ int outbox_add_sealed(struct outbox *outbox, sqlite3_int64 text, const char *ses
 int outbox_set_next(struct outbox *outbox, const struct session *session, uint64_t from,
                     uint64_t to);
 
-/* Stores how far a session is carried and done, and deletes the frames that are. `next` stays. */
+/* Stores how far a session is carried and done; deletes the frames that are done. `next` stays. */
 int outbox_set_carried(struct outbox *outbox, const char *session,
                        const struct outbox_progress *it);
+int outbox_drop_done(struct outbox *outbox, const char *session, uint64_t done);
 
 /* Says that a session is stopped, and why; that it isn't; that none is. */
 int outbox_add_stopped(struct outbox *outbox, const char *session, const char *reason);
@@ -154,10 +155,15 @@ int outbox_find_begun(struct outbox *outbox, struct kerberos *kerberos, const ch
 int outbox_find_stream(struct outbox *outbox, struct kerberos *kerberos, const char *stream,
                        struct begun *it);
 
-/* In a transaction: adds it, or notes that it is closed; drops those of its stream before it of
- * which no frame is left. */
+/* In a transaction: adds it, or notes that it is closed. */
 int outbox_add_begun(struct outbox *outbox, struct kerberos *kerberos, const struct begun *it);
 int outbox_close_begun(struct outbox *outbox, const struct begun *it);
+
+/* The same: forgets sessions of its stream that ended before the one before it, and of which nothing waits for a
+ * receipt, nor of the one after them, whose opening names them. Adds them to the list, as long as it has room. */
+enum { ENDED = 64 };
+struct ended { size_t count; struct { char name[CARRIER_NAME]; unsigned shard; } at[ENDED]; };
+int outbox_forget_ended(struct outbox *outbox, const struct begun *it, struct ended *ended);
 
 /* The second up to which sessions that were begun are old; in a transaction of its own: it is this
  * one. */

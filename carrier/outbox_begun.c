@@ -79,13 +79,29 @@ int outbox_find_stream(struct outbox *o, struct kerberos *kerberos, const char *
     return find(o, SELECT_STREAM, kerberos, it);
 }
 
-/* Drops the sessions of the stream before the one before this, which it names. */
-static int drop_before(struct outbox *o, const struct begun *it)
+/* Deletes what the outbox has of a session. */
+static int forget(struct outbox *o, const char *name)
 {
-    struct statement *drop = &o->statements[DROP_OPENED];
-    bind_text(drop, 1, it->opened.stream);
-    bind_number(drop, 2, (sqlite3_int64)it->turn);
-    return step_once(drop);
+    bind_text(&o->statements[DROP_OPENED], 1, name);
+    bind_text(&o->statements[FORGET_SESSION], 1, name);
+    return step_once(&o->statements[DROP_OPENED]) == 0 && step_once(&o->statements[FORGET_SESSION]) == 0 ? 0 : -1;
+}
+
+int outbox_forget_ended(struct outbox *o, const struct begun *it, struct ended *ended)
+{
+    struct statement *select = &o->statements[SELECT_ENDED];
+    size_t i = ended->count;
+    int row = 0;
+    bind_text(select, 1, it->opened.stream);
+    bind_number(select, 2, (sqlite3_int64)it->turn);
+    bind_number(select, 3, (sqlite3_int64)(ENDED - ended->count));
+    while (ended->count < ENDED && (row = step_row(select)) == 1
+           && copy_column(select->at, 0, ended->at[ended->count].name))
+        ended->at[ended->count++].shard = (unsigned)sqlite3_column_int(select->at, 1) % CARRIER_SHARDS;
+    end_rows(select);
+    for (; i < ended->count && row == 0; i++)
+        row = forget(o, ended->at[i].name);
+    return row;
 }
 
 int outbox_add_begun(struct outbox *o, struct kerberos *kerberos, const struct begun *it)
@@ -108,7 +124,7 @@ int outbox_add_begun(struct outbox *o, struct kerberos *kerberos, const struct b
     bind_number(add, 1 + KVNO, wrapped.kvno);
     bind_number(add, 1 + WRAPPING, wrapped.etype);
     bind_bytes(add, 1 + KEY, wrapped.bytes, wrapped.len);
-    return step_once(add) == 0 ? drop_before(o, it) : -1;
+    return step_once(add);
 }
 
 int outbox_close_begun(struct outbox *o, const struct begun *it)

@@ -13,6 +13,7 @@ struct postgresql_sharing {
     struct sharing base;
     const char *where;
     PGconn *db;  /* NULL: it has to be opened (again) */
+    int is_counted;
     char class[16];
 };
 
@@ -46,31 +47,46 @@ static const char *ask(struct postgresql_sharing *s, const char *sql, unsigned s
     return text;
 }
 
-/* The class of the locks, and the lock by which this receiver is counted. */
-static const char first[] =
-    "SELECT class, pg_try_advisory_lock_shared(class, 2147483647) FROM"
-    " (SELECT hashtext('krbrelay ' || current_schema()) AS class) AS it";
+/* The class of the locks. */
+static const char first[] = "SELECT hashtext('krbrelay ' || current_schema())";
+
+/* The lock by which this receiver is counted, which is number 2147483647 of the class. */
+static const char *const counted[] = { "SELECT pg_advisory_unlock_shared($1::int, $2::int)",
+                                       "SELECT pg_try_advisory_lock_shared($1::int, $2::int)" };
+enum { COUNTED = 2147483647 };
+
+/* Has this receiver be counted, unless it is cut off. */
+static int be_counted(struct postgresql_sharing *s)
+{
+    char text[32];
+    int is_wanted = !s->base.is_cut_off;
+    if (is_wanted == s->is_counted)
+        return 1;
+    if (*ask(s, counted[is_wanted], COUNTED, text) != 't')
+        return 0;
+    s->is_counted = is_wanted;
+    return 1;
+}
 
 static int be_there(struct postgresql_sharing *s)
 {
     PGresult *result;
-    char is_counted[2];
     int is_fine = 0;
+    s->is_counted = 0;
     s->db = postgresql_connect(s->where);
     if (s->db == NULL)
         return 0;
     if (postgresql_is_done(s->db, PQexec(s->db, "SET idle_session_timeout = '10s';"
                                                 " SET statement_timeout = '3s'"), "timeouts")) {
         result = PQexec(s->db, first);
-        is_fine = read_value(result, 1, is_counted, sizeof is_counted) && *is_counted == 't'
-                  && read_value(result, 0, s->class, sizeof s->class);
+        is_fine = read_value(result, 0, s->class, sizeof s->class);
         if (!is_fine)
             postgresql_report(s->db, "locks of shards");
         PQclear(result);
     }
-    if (is_fine)
+    if (is_fine && be_counted(s))
         return 1;
-    PQfinish(s->db);
+    PQfinish(s->db); /* NULL, if a question has ended it */
     s->db = NULL;
     return 0;
 }
@@ -109,7 +125,7 @@ static int count(struct sharing *base)
 {
     struct postgresql_sharing *s = (struct postgresql_sharing *)base;
     char text[32];
-    if (s->db == NULL && !come_again(s))
+    if ((s->db == NULL && !come_again(s)) || !be_counted(s))
         return -1;
     ask(s, "SELECT count(*) FROM pg_locks JOIN pg_database ON pg_database.oid = database"
            " WHERE locktype = 'advisory' AND datname = current_database() AND granted"

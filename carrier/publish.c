@@ -340,22 +340,35 @@ static void note_next(struct sender *s, const struct sending *it)
         publish_note(s, now);
 }
 
+/* Frames of a session are carried. */
+static void note_carried(struct sender *s, struct sending *it)
+{
+    sender_note_dirty(s, it);
+    publish_note(s, it);
+    note_next(s, it);
+}
+
+/* Confirmations of a session come one after another: it is noted once for all of them. */
 size_t publish_count_carried(struct sender *s, int milliseconds_to_wait)
 {
     struct confirmed list[COUNTED];
+    struct sending *last = NULL;
     size_t rose = 0;
     int i, found = carrier_confirmed(s->carrier, list, COUNTED, milliseconds_to_wait);
+    uint64_t now = milliseconds();
     for (i = 0; i < found; i++) {
         struct sending *it = of_tag(s, list[i].tag);
         uint32_t counts = 0;
         if (it == NULL
-            || krbrelay_sending_confirmed(&it->end, list[i].number, list[i].offset, milliseconds(), &counts)
-                   != KRBRELAY_OK || !counts)
+            || krbrelay_sending_confirmed(&it->end, list[i].number, list[i].offset, now, &counts) != KRBRELAY_OK
+            || !counts)
             continue;
-        sender_note_dirty(s, it);
-        publish_note(s, it);
-        note_next(s, it);
+        if (last != NULL && last != it)
+            note_carried(s, last);
+        last = it;
         rose++;
     }
+    if (last != NULL)
+        note_carried(s, last);
     return found == COUNTED ? rose + publish_count_carried(s, 0) : rose;
 }

@@ -16,7 +16,7 @@
  * covers numbers, whoever's frames took them.
  *
  * The key of the way back follows from the session's key. Of a session that began by a ticket MIT's library
- * derives it (opening_back). Of a line of the file of sessions it is the last word, or, where that is missing,
+ * derives it (opening_session). Of a line of the file of sessions it is the last word, or, where that is missing,
  * the first bytes of the checksums of KRB-SAFE messages under the session's key that nobody sends
  * (receipt_key). Neither is a key under which anything else is sealed. */
 #ifndef RECEIPTS_H

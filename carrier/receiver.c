@@ -14,6 +14,7 @@
 
 #include <getopt.h>
 #include <limits.h>
+#include <math.h>
 #include <stdio.h>
 #include <stdlib.h>
 #include <string.h>
@@ -58,6 +59,8 @@ static struct sessions *sessions; /* the file, as it was read last */
 /* ---- Shards that are shared */
 
 static struct sharing *sharing;
+static struct carrier *look;  /* by which it asks whether the carrier is there; NULL: it has to be opened (again) */
+static int is_cut_off;        /* from the carrier: shards are others' until it answers */
 static unsigned char is_closed[CARRIER_SHARDS]; /* with --until-closed: all its sessions are */
 
 static int is_wanted(unsigned shard)
@@ -125,6 +128,49 @@ static void give_back_shards(void)
     }
 }
 
+/* Whether the carrier answers a question about a shard: one that another receiver may serve, if there is one. */
+static int is_answered(void)
+{
+    static unsigned shard;
+    uint64_t list, end;
+    unsigned i, last = shard;
+    if (look == NULL && (look = carrier_open(&options.shard.carrier)) == NULL)
+        return 0;
+    for (i = 1; i <= CARRIER_SHARDS; i++) {
+        shard = (last + i) % CARRIER_SHARDS;
+        if (is_wanted(shard) && serving_state(shard) != SHARD_SERVED)
+            break;
+    }
+    return !carrier_is_away(look) && carrier_incarnation(look, shard, &list, &end) == 0;
+}
+
+/* Looks whether it is cut off from the carrier, where another receiver may not be: 1 if that has changed. */
+static int look_at_carrier(int receivers)
+{
+    int was = is_cut_off;
+    if (was || (receivers > 1 && serving_is_unanswered()))
+        is_cut_off = !is_answered();
+    sharing_cut_off(sharing, is_cut_off);
+    if (is_cut_off == was)
+        return 0;
+    if (is_cut_off)
+        log_fact(LEVEL_WARNING, "receiver_cut_off", field_text("text", "the carrier answers nothing: its shards"
+                 " are left to other receivers until it does"));
+    else
+        log_fact(LEVEL_INFO, "receiver_back", field_text("text", "the carrier answers: it shares the shards again"));
+    return 1;
+}
+
+/* Its health, as that of a shard: one that is cut off serves none. */
+static void show_sharing(void)
+{
+    double values[SERVICE_METRICS];
+    unsigned i;
+    for (i = 0; i < SERVICE_METRICS; i++)
+        values[i] = NAN;
+    service_alive(CARRIER_SHARDS, !is_cut_off, "", values);
+}
+
 static void report_shared(int receivers)
 {
     static unsigned last = UINT_MAX;
@@ -140,10 +186,12 @@ static void report_shared(int receivers)
 static void share(void)
 {
     int receivers = sharing_count(sharing);
-    unsigned part, served;
-    if (receivers < 1)
-        return; /* the store is away: what is served stays so */
-    part = (count_wanted() + (unsigned)receivers - 1) / (unsigned)receivers;
+    unsigned part = 0, served;
+    show_sharing();
+    if (receivers < !is_cut_off || (look_at_carrier(receivers) && !is_cut_off))
+        return; /* the store is away: what is served stays so; or it is counted from now on */
+    if (!is_cut_off)
+        part = (count_wanted() + (unsigned)receivers - 1) / (unsigned)receivers;
     served = count_served();
     leave_shards(served > part ? served - part : 0);
     if (served < part)
@@ -223,6 +271,8 @@ static int work(void)
                   && (options.metrics == NULL || service_listen(options.metrics) == 0);
     if (is_fine && options.shard_count == 0)
         is_fine = (sharing = sharing_open(options.shard.store)) != NULL;
+    if (is_fine && sharing != NULL)
+        look = carrier_open(&options.shard.carrier); /* while it is there; else it is opened later */
     if (is_fine) {
         start_shards();
         watch();
@@ -230,6 +280,8 @@ static int work(void)
     }
     if (sharing != NULL)
         sharing_close(sharing);
+    if (look != NULL)
+        carrier_close(look);
     serving_end();
     service_end();
     return !is_fine;

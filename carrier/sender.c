@@ -20,7 +20,8 @@
 enum {
     IDLE = 20,          /* milliseconds to wait for confirmations, or texts */
     PAUSE = 100,        /* milliseconds after a fault, */
-    KEPT = 20           /* and between two transactions that store only how far sessions are */
+    KEPT = 20,          /* and between two transactions that store only how far sessions are */
+    FORGOTTEN = 1024    /* sessions that have ended and stay in memory, where it has fewer others */
 };
 
 #define SECOND UINT64_C(1000000000) /* in nanoseconds */
@@ -91,7 +92,8 @@ void sender_note_dirty(struct sender *s, struct sending *it)
 /* Stores a session that begins by a ticket, and that it is closed. */
 static int keep_begun(struct sender *s, const struct sending *it)
 {
-    if (!it->is_stored && outbox_add_begun(&s->outbox, s->kerberos, it->begun) != 0)
+    if (!it->is_stored && (outbox_add_begun(&s->outbox, s->kerberos, it->begun) != 0
+                           || outbox_forget_ended(&s->outbox, it->begun, &s->ended) != 0))
         return -1;
     return it->is_closing ? outbox_close_begun(&s->outbox, it->begun) : 0;
 }
@@ -133,17 +135,21 @@ static enum seal_answer keep_dirty(struct sender *s)
     for (i = 0; i < s->dirty.count; i++) {
         struct sending *it = s->dirty.at[i];
         struct outbox_progress now = reached(s, it);
-        if (outbox_set_carried(&s->outbox, it->of.name, &now) != 0)
+        if (outbox_set_carried(&s->outbox, it->of.name, &now) != 0
+            || (now.done > it->kept.done && outbox_drop_done(&s->outbox, it->of.name, now.done) != 0))
             return SEAL_FAULT;
         it->next_kept = now;
     }
     return SEAL_OK;
 }
 
-/* All of it is stored. */
+/* All of it is stored. Of sessions that have ended the carrier has no receipt to keep any more. */
 static void note_kept(struct sender *s)
 {
     size_t i;
+    for (i = 0; i < s->ended.count; i++)
+        carrier_forget(s->carrier, s->ended.at[i].shard, s->ended.at[i].name);
+    s->ended.count = 0;
     for (i = 0; i < s->dirty.count; i++) {
         s->dirty.at[i]->kept = s->dirty.at[i]->next_kept;
         s->dirty.at[i]->is_dirty = 0;
@@ -169,6 +175,7 @@ static void give_up(struct sender *s, sqlite3_int64 seen)
 {
     size_t i;
     outbox_rollback(&s->outbox);
+    s->ended.count = 0;
     texts_give_up(s, seen);
     for (i = 0; i < s->touched.count; i++) {
         struct sending *it = s->touched.at[i];
@@ -284,6 +291,31 @@ static int keep_changed_stands(struct sender *s)
     return 0;
 }
 
+/* Whether it is a session of a stream that goes on with another one, and nothing of it waits for a receipt. */
+static int has_ended(const struct sending *it)
+{
+    return it->begun != NULL && it->begun->is_closed && it->stream->now != it
+           && it->end.done == it->end.progress.next;
+}
+
+/* Begins anew once so many sessions have ended that they take as much memory as all others. */
+static enum outbox_answer forget_ended(struct sender *s)
+{
+    enum outbox_answer answer;
+    size_t i, ended = 0;
+    for (i = 0; i < s->all.count; i++)
+        ended += has_ended(s->all.at[i]) != 0;
+    if (ended < FORGOTTEN || 2 * ended < s->all.count || s->untold.count > 0)
+        return OUTBOX_OK;
+    answer = store(s, 0);
+    if (answer != OUTBOX_OK)
+        return answer;
+    log_fact(LEVEL_INFO, "sessions_forgotten", field_number("ended", ended),
+             field_number("others", s->all.count - ended));
+    sender_forget(s);
+    return sender_begin(s) == 0 ? OUTBOX_OK : OUTBOX_FAULT;
+}
+
 static enum outbox_answer keep_stands(struct sender *s)
 {
     uint64_t under_way, room, changed = 0;
@@ -325,6 +357,8 @@ static enum outbox_answer look(struct sender *s)
     answer = keep_stands(s);
     if (answer == OUTBOX_OK)
         answer = look_at_sessions(s);
+    if (answer == OUTBOX_OK)
+        answer = forget_ended(s);
     if (answer == OUTBOX_OK && sender_try_left(s) != 0)
         answer = OUTBOX_FAULT;
     if (answer == OUTBOX_OK && s->kerberos != NULL)

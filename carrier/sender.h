@@ -60,6 +60,7 @@ struct sender {
     int is_hung_up;             /* SIGHUP came, and the outbox isn't told yet */
     uint8_t *opening;           /* OPENING bytes */
     struct outbox outbox;
+    struct ended ended;         /* sessions that this transaction forgets */
     struct carrier *carrier;
     struct sessions *sessions;  /* the file, */
     struct sessions *newer;     /* and what it is now, before that is used, or NULL */

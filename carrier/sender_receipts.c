@@ -13,12 +13,6 @@
 
 #define PAUSE UINT64_C(20000000) /* nanoseconds between two looks for receipts */
 
-/* A name, or a struct that begins with one. */
-static int by_name(const void *one, const void *other)
-{
-    return strcmp(one, other);
-}
-
 /* The session's texts stay in the outbox, and nothing of it leaves any more. */
 static void stop(struct sender *s, struct sending *it, uint64_t n)
 {

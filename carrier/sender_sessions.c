@@ -3,16 +3,11 @@
 #include "log.h"
 #include "receipts.h"
 #include "sender.h"
+#include "text.h"
 
 #include <search.h>
 #include <stdlib.h>
 #include <string.h>
-
-/* A name, or a struct that begins with one. */
-static int by_name(const void *one, const void *other)
-{
-    return strcmp(one, other);
-}
 
 int sender_grow(struct list *list, size_t count)
 {

@@ -13,35 +13,7 @@
 #define LATER UINT64_C(2000000000)   /* nanoseconds until a key that couldn't be read is tried again, */
 enum { MOST_TRIES = 7 };             /* doubled so often at most: up to some four minutes */
 
-/* A name, or a struct that begins with one. */
-static int by_name(const void *one, const void *other)
-{
-    return strcmp(one, other);
-}
-
 /* ---- Sessions of streams */
-
-/* The two ends of such a session have RFC 4120's directional addresses. */
-static struct krbrelay_address end_of(uint8_t which)
-{
-    return (struct krbrelay_address){ .kind = KRBRELAY_DIRECTIONAL, .len = 4,
-                                      .bytes = { 0, 0, 0, which } };
-}
-
-static int make_session(const struct sender *s, const struct begun *it, struct session *of)
-{
-    memset(of, 0, sizeof *of);
-    memcpy(of->name, it->opened.name, sizeof of->name);
-    of->shard = it->shard;
-    of->etype = it->opened.etype;
-    of->mode = KRBRELAY_PRIV;
-    memcpy(of->key, it->opened.key, it->opened.key_len);
-    of->key_len = it->opened.key_len;
-    of->first = of->has_opening = of->has_back = 1;
-    of->from = end_of(0);
-    of->to = end_of(1);
-    return opening_back(s->kerberos, &it->opened, of->back);
-}
 
 /* Adds a session. NULL after a fault of the outbox, or out of memory. */
 static struct sending *add(struct sender *s, struct stream *stream, const struct begun *it,
@@ -52,7 +24,7 @@ static struct sending *add(struct sender *s, struct stream *stream, const struct
     struct session of;
     if (copy != NULL) {
         *copy = *it;
-        if (make_session(s, it, &of) == 0)
+        if (opening_session(s->kerberos, &it->opened, it->shard, &of) == 0)
             added = sender_add(s, &of);
         explicit_bzero(&of, sizeof of);
     }

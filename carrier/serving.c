@@ -11,6 +11,7 @@
 enum { WAIT = 100, SHORTEST = 200, LONGEST = 5000 }; /* milliseconds */
 
 #define SECOND UINT64_C(1000000000) /* nanoseconds */
+#define UNANSWERED (10 * SECOND)
 
 /* What the thread and its owner both use is read and written atomically. */
 struct thread {
@@ -20,6 +21,7 @@ struct thread {
     int has_closed;
     int is_left;             /* it is to end */
     int has_begun, has_ended, is_closed;
+    uint64_t answered;       /* when the carrier answered last */
 };
 
 static struct {
@@ -102,6 +104,8 @@ static void serve(struct thread *it)
         int count;
         use_sessions(shard);
         count = shard_step(shard, WAIT);
+        if (shard->answered != 0)
+            __atomic_store_n(&it->answered, shard->answered, __ATOMIC_SEQ_CST);
         if (count < 0)
             wait_for_store(it, &pause);
         else if (shard->is_loaded)
@@ -146,7 +150,7 @@ int serving_begin(const struct shard_options *options, struct sessions *sessions
     serving.sessions = sessions_share(sessions);
     serving.threads = calloc(CARRIER_SHARDS, sizeof *serving.threads);
     if (serving.threads != NULL && service_begin(shard_metrics, shard_metrics_count,
-                                                 &shard_stands_metric, CARRIER_SHARDS) == 0)
+                                                 &shard_stands_metric, CARRIER_SHARDS + 1) == 0)
         return 0;
     log_system("out_of_memory", "receiver");
     return -1;
@@ -163,7 +167,7 @@ void serving_use(struct sessions *sessions)
 int serving_start(unsigned shard)
 {
     struct thread *it = &serving.threads[shard];
-    *it = (struct thread){ .state = SHARD_SERVED };
+    *it = (struct thread){ .state = SHARD_SERVED, .answered = nanoseconds() };
     it->shard.options = serving.options;
     it->shard.number = shard;
     service_expect(shard);
@@ -207,6 +211,19 @@ enum shard_state serving_state(unsigned shard)
 unsigned serving_count(void)
 {
     return serving.count;
+}
+
+int serving_is_unanswered(void)
+{
+    uint64_t now = nanoseconds();
+    unsigned shard, served = 0;
+    for (shard = 0; shard < CARRIER_SHARDS; shard++) {
+        const struct thread *it = &serving.threads[shard];
+        if (it->state == SHARD_SERVED && now - __atomic_load_n(&it->answered, __ATOMIC_SEQ_CST) < UNANSWERED)
+            return 0;
+        served += it->state == SHARD_SERVED;
+    }
+    return served > 0;
 }
 
 int serving_is_ready(void)

@@ -34,6 +34,9 @@ unsigned serving_count(void);
 int serving_is_ready(void);
 int serving_failed(void);
 
+/* Whether there are threads, and the carrier has answered none of them for ten seconds. */
+int serving_is_unanswered(void);
+
 /* Whether the thread of a shard that is idle has ended since all its sessions are closed. */
 int serving_has_closed(unsigned shard);
 

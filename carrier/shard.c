@@ -10,6 +10,16 @@
 
 #define QUIET UINT64_C(5000000000) /* nanoseconds */
 
+enum { FORGOTTEN = 1024 };
+
+/* Nanoseconds since the last call. */
+static uint64_t lap(struct shard *s)
+{
+    uint64_t before = s->lap;
+    s->lap = nanoseconds();
+    return s->lap - before;
+}
+
 /* ---- A frame that is refused */
 
 /* The opener of a session, made when it is first needed. */
@@ -209,7 +219,7 @@ static int take_accepted(struct shard *s, struct receiving *of, const struct car
                          size_t size)
 {
     const struct krbrelay_seen seen = { .accepted = 1, .is_close = kind == KRBRELAY_CLOSE };
-    uint64_t number = of->end.drafted.number, began = nanoseconds();
+    uint64_t number = of->end.drafted.number;
     uint32_t outcome = 0;
     int done;
     if (krbrelay_receiving_take(&of->end, it->frame, it->len, &seen, &outcome) != KRBRELAY_OK
@@ -223,7 +233,7 @@ static int take_accepted(struct shard *s, struct receiving *of, const struct car
     s->counts.accepted++;
     s->open -= seen.is_close && s->open > 0;
     done = take_effects(s, of, number, kind, size);
-    s->counts.storing += nanoseconds() - began;
+    s->counts.storing += lap(s);
     return done;
 }
 
@@ -293,8 +303,6 @@ static int is_before_turn(struct shard *s, const struct receiving *of)
 /* Takes one frame of a session, within a transaction. */
 static int take(struct shard *s, struct receiving *of, const struct carried *it)
 {
-    struct krbrelay_moment now = read_clock();
-    uint64_t began = nanoseconds();
     enum krbrelay_answer answer;
     uint32_t kind = 0;
     size_t size = 0;
@@ -306,10 +314,10 @@ static int take(struct shard *s, struct receiving *of, const struct carried *it)
         return take_before_turn(s, of, it);
     if (make_receiver(s, of) != 0)
         return -1;
-    answer = krbrelay_receiver_take(&of->receiver, it->frame, it->len, &now, &kind, s->bytes,
+    answer = krbrelay_receiver_take(&of->receiver, it->frame, it->len, &s->moment, &kind, s->bytes,
                                     KRBRELAY_FRAME_LIMIT, &size);
     done = answer == KRBRELAY_OK ? 0 : take_refusal(s, of, it, answer);
-    s->counts.opening += nanoseconds() - began;
+    s->counts.opening += lap(s);
     return answer == KRBRELAY_OK ? take_accepted(s, of, it, kind, size) : done;
 }
 
@@ -348,6 +356,7 @@ static int note_stored(struct shard *s)
     for (i = 0; i < s->changed.count; i++) {
         struct receiving *it = s->changed.at[i];
         it->now.is_stored = 1;
+        s->ended += it->now.closed && !it->stored.closed;
         it->stored = it->now;
         it->is_changed = 0;
         it->opened_at = 0;
@@ -368,25 +377,26 @@ static int take_all(struct shard *s, int count)
 {
     const struct reached from = { s->reading.stored.list, s->reading.stored.offset };
     const struct reached to = { s->reading.read.list, s->reading.read.offset };
-    uint64_t began = nanoseconds();
-    int i, answer = shard_load_frames(s, count);
+    int i, answer;
+    s->moment = read_clock();
+    s->lap = nanoseconds();
+    answer = shard_load_frames(s, count);
     if (answer == 0)
         answer = store_begin(s->store, s->number, &from, &to);
-    s->counts.storing += nanoseconds() - began;
+    s->counts.storing += lap(s);
     for (i = 0; i < count && answer == 0; i++) {
         if (s->of_frames[i] != NULL)
             answer = take(s, s->of_frames[i], &s->frames[i]);
         else
             take_unknown(s, &s->frames[i]);
     }
-    began = nanoseconds();
     if (answer == 0)
         answer = advance_all(s);
     if (answer == 0)
         answer = store_commit(s->store);
     else
         store_rollback(s->store);
-    s->counts.storing += nanoseconds() - began;
+    s->counts.storing += lap(s);
     s->counts.commits += answer == 0;
     s->counts.aside += answer == 0 ? s->aside : 0;
     s->aside = 0;
@@ -457,9 +467,23 @@ static void look_at_list(struct shard *s)
         s->is_loaded = 0;
 }
 
+/* Forgets all sessions once so many have ended that they take as much memory as all others, and owe nothing: those
+ * of which frames come are loaded again. */
+static void forget_ended(struct shard *s)
+{
+    if (s->ended < FORGOTTEN || 2 * s->ended < s->count || s->owing.count > 0)
+        return;
+    log_fact(LEVEL_INFO, "sessions_forgotten", field_number("shard", s->number), field_number("ended", s->ended),
+             field_number("others", s->count - s->ended));
+    shard_forget(s);
+    s->is_loaded = 0;
+}
+
 int shard_step(struct shard *s, int milliseconds)
 {
-    int count, answer = be_loaded(s, milliseconds);
+    int count, answer;
+    forget_ended(s);
+    answer = be_loaded(s, milliseconds);
     if (answer != 1)
         return answer;
     shard_pay(s);

@@ -87,6 +87,7 @@ struct shard {
     size_t count, room;            /* so many there are, and those below have room in these: */
     struct receivings changed, taken, owing, standing; /* in which each is once */
     unsigned long aside;           /* texts that this transaction puts aside */
+    size_t ended;                  /* so many of them are closed */
     struct receivings asked;       /* those of which the store is asked */
     const char **names;            /* of those */
     struct carried *frames;
@@ -95,6 +96,8 @@ struct shard {
     int has_wrapped;               /* keys that are stored are wrapped under the newest one */
     struct receivings news;        /* those whose openings this transaction takes */
     char unknown[CARRIER_NAME];    /* the last name that the store was asked for in vain */
+    struct krbrelay_moment moment; /* when this transaction's frames are taken */
+    uint64_t lap;                  /* up to when its time was counted */
     uint64_t answered;             /* when the carrier answered last, */
     uint64_t looked;               /* when a frame came last, or the list was looked at */
     unsigned long turn;            /* so often it was loaded */

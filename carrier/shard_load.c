@@ -3,6 +3,7 @@
 #include "log.h"
 #include "receipts.h"
 #include "shard.h"
+#include "text.h"
 
 #include <search.h>
 #include <stdlib.h>
@@ -11,12 +12,6 @@
 enum { TOGETHER = 256 }; /* sessions of which the store is asked at once */
 
 /* ---- The sessions that are in memory */
-
-/* A name, or a struct that begins with one. */
-static int by_name(const void *one, const void *other)
-{
-    return strcmp(one, other);
-}
 
 static void free_receiving(void *given)
 {
@@ -101,7 +96,7 @@ void shard_forget(struct shard *s)
     free(s->names);
     s->changed = s->standing = s->asked = s->news = s->owing = s->taken = (struct receivings){ NULL, 0 };
     s->names = NULL;
-    s->count = s->room = 0;
+    s->count = s->room = s->ended = 0;
 }
 
 /* ---- What the store has of them */
@@ -190,7 +185,12 @@ int shard_load_frames(struct shard *s, int count)
     s->asked.count = 0;
     s->unknown[0] = 0;
     for (i = 0; i < count; i++) {
-        int found = shard_find(s, s->frames[i].session, &s->of_frames[i]);
+        int found;
+        if (i > 0 && s->of_frames[i - 1] != NULL && strcmp(s->frames[i].session, s->frames[i - 1].session) == 0) {
+            s->of_frames[i] = s->of_frames[i - 1]; /* as mostly: a session's frames come together */
+            continue;
+        }
+        found = shard_find(s, s->frames[i].session, &s->of_frames[i]);
         if (found == 0 && s->kerberos != NULL)
             found = shard_find_opened(s, &s->frames[i], &s->of_frames[i]);
         if (found < 0)

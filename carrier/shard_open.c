@@ -7,29 +7,6 @@
 #include <stdlib.h>
 #include <string.h>
 
-/* The two ends of such a session have RFC 4120's directional addresses. */
-static struct krbrelay_address end_of(uint8_t which)
-{
-    return (struct krbrelay_address){ .kind = KRBRELAY_DIRECTIONAL, .len = 4,
-                                      .bytes = { 0, 0, 0, which } };
-}
-
-/* The session as those of the file are. */
-static int make_session(const struct shard *s, const struct opened *it, struct session *of)
-{
-    memset(of, 0, sizeof *of);
-    memcpy(of->name, it->name, sizeof of->name);
-    of->shard = s->number;
-    of->etype = it->etype;
-    of->mode = KRBRELAY_PRIV;
-    memcpy(of->key, it->key, it->key_len);
-    of->key_len = it->key_len;
-    of->first = of->has_opening = of->has_back = 1;
-    of->from = end_of(0);
-    of->to = end_of(1);
-    return opening_back(s->kerberos, it, of->back);
-}
-
 /* Adds a session that began by a ticket. NULL if there is no memory. */
 static struct receiving *add(struct shard *s, const struct opened *it)
 {
@@ -38,7 +15,7 @@ static struct receiving *add(struct shard *s, const struct opened *it)
     struct session of;
     if (copy != NULL) {
         *copy = *it;
-        if (make_session(s, it, &of) == 0)
+        if (opening_session(s->kerberos, it, s->number, &of) == 0)
             added = shard_add(s, &of);
         explicit_bzero(&of, sizeof of);
     }

@@ -11,7 +11,7 @@
 enum { RECEIVERS = 256 }; /* the most that share one file */
 
 /* Byte N of the file is shard N; those from CARRIER_SHARDS on are the receivers'. */
-struct file_sharing { struct sharing base; int file; };
+struct file_sharing { struct sharing base; int file; unsigned own; /* this receiver's byte; 0: none */ };
 
 /* Asks something of a byte's lock: F_OFD_SETLK, or F_OFD_GETLK, whose answer is the lock's type. */
 static int ask(const struct file_sharing *s, int what, short type, unsigned byte)
@@ -25,18 +25,34 @@ static int ask(const struct file_sharing *s, int what, short type, unsigned byte
     return -1;
 }
 
+/* Takes the first byte of a receiver that is free. */
+static int be_counted(struct file_sharing *s)
+{
+    unsigned i;
+    int taken = s->own != 0;
+    for (i = 0; i < RECEIVERS && taken == 0; i++) {
+        taken = ask(s, F_OFD_SETLK, F_WRLCK, CARRIER_SHARDS + i);
+        s->own = taken == 1 ? CARRIER_SHARDS + i : 0;
+    }
+    return taken == 1;
+}
+
 static int count(struct sharing *base)
 {
-    const struct file_sharing *s = (const struct file_sharing *)base;
+    struct file_sharing *s = (struct file_sharing *)base;
     unsigned i;
     int others = 0;
+    if (s->base.is_cut_off && s->own != 0 && ask(s, F_OFD_SETLK, F_UNLCK, s->own) == 1)
+        s->own = 0;
+    if (!s->base.is_cut_off && !be_counted(s))
+        return -1;
     for (i = 0; i < RECEIVERS; i++) {
         int type = ask(s, F_OFD_GETLK, F_WRLCK, CARRIER_SHARDS + i);
         if (type < 0)
             return -1;
         others += type != F_UNLCK;
     }
-    return others + 1;
+    return others + (s->own != 0);
 }
 
 static int take(struct sharing *base, unsigned shard)
@@ -58,12 +74,9 @@ static void close_it(struct sharing *base)
     free(s);
 }
 
-/* Opens the file, and takes the first byte of a receiver that is free. */
 static int be_there(struct file_sharing *s, const char *path)
 {
     char name[512];
-    unsigned i = 0;
-    int taken = 0;
     if ((size_t)snprintf(name, sizeof name, "%s.shards", path) >= sizeof name)
         return 0;
     s->file = open(name, O_RDWR | O_CREAT | O_CLOEXEC, 0600);
@@ -71,9 +84,7 @@ static int be_there(struct file_sharing *s, const char *path)
         log_system("shards_unlocked", name);
         return 0;
     }
-    while (taken == 0 && i < RECEIVERS)
-        taken = ask(s, F_OFD_SETLK, F_WRLCK, CARRIER_SHARDS + i++);
-    return taken == 1;
+    return be_counted(s);
 }
 
 struct sharing *file_sharing_open(const char *path)
@@ -120,6 +131,11 @@ struct sharing *sharing_open(const char *where)
 int sharing_count(struct sharing *sharing)
 {
     return sharing->calls->count(sharing);
+}
+
+void sharing_cut_off(struct sharing *sharing, int is_cut_off)
+{
+    sharing->is_cut_off = is_cut_off;
 }
 
 int sharing_take(struct sharing *sharing, unsigned shard)

@@ -17,10 +17,13 @@ struct sharing;
 /* Opens it for the store of this name. NULL after a fault. */
 struct sharing *sharing_open(const char *where);
 
-/* How many receivers share the store now, this one among them; -1 if the store doesn't answer.
- * Called each second: that says that this one is there. Locks that were lost are taken again
+/* How many receivers share the store now, this one among them unless it is cut off; -1 if the store doesn't
+ * answer. Called each second: that says that this one is there. Locks that were lost are taken again
  * before, unless another receiver has them. */
 int sharing_count(struct sharing *sharing);
+
+/* Whether this receiver is cut off from the carrier, and so isn't counted: shards are for those that are. */
+void sharing_cut_off(struct sharing *sharing, int is_cut_off);
 
 /* Takes a shard, unless another receiver has it: 1, 0, or -1 if the store doesn't answer. */
 int sharing_take(struct sharing *sharing, unsigned shard);
@@ -35,12 +38,12 @@ void sharing_close(struct sharing *sharing);
 /* ---- For those who write one: its first member is a struct sharing. */
 
 struct sharing_calls {
-    int (*count)(struct sharing *);
+    int (*count)(struct sharing *); /* it also has this receiver be counted, or not, as is_cut_off says */
     int (*take)(struct sharing *, unsigned);
     void (*give_back)(struct sharing *, unsigned);
     void (*close)(struct sharing *);
 };
-struct sharing { const struct sharing_calls *calls; unsigned char has[CARRIER_SHARDS]; };
+struct sharing { const struct sharing_calls *calls; int is_cut_off; unsigned char has[CARRIER_SHARDS]; };
 
 /* Zeros of this size, but for these calls; NULL without memory. */
 void *sharing_make(size_t size, const struct sharing_calls *calls);

@@ -12,7 +12,7 @@
 
 enum { PENDING = 4096, POLL = 5 };
 enum {
-    INSERT, SELECT, SELECT_END, COUNT, ADD_RECEIPT, SELECT_RECEIPTS, STATEMENTS
+    INSERT, SELECT, SELECT_END, COUNT, ADD_RECEIPT, SELECT_RECEIPTS, DROP_RECEIPT, STATEMENTS
 };
 
 struct sqlite_carrier {
@@ -53,6 +53,8 @@ static const char *const sql[STATEMENTS] = {
                      " 1 + (SELECT coalesce(max(turn), 0) FROM receipt), ?2) ON CONFLICT (session) DO UPDATE SET turn = excluded.turn,"
                      " receipt = excluded.receipt"),
     [SELECT_RECEIPTS] = "SELECT turn, session, receipt FROM receipt WHERE turn > ? ORDER BY turn",
+    /* but for the last one, so that the next has a turn of its own */
+    [DROP_RECEIPT] = "DELETE FROM receipt WHERE session = ? AND turn < (SELECT max(turn) FROM receipt)",
     [SELECT_END] = "SELECT coalesce(max(offset), 0) FROM carried WHERE shard = ?",
 };
 
@@ -259,6 +261,14 @@ static int receipts(struct carrier *base, carrier_receipt *take, void *given)
     return give_receipts(&c->statements[SELECT_RECEIPTS], &c->receipt, take, given);
 }
 
+static void forget(struct carrier *base, unsigned shard, const char *session)
+{
+    struct statement *drop = &((struct sqlite_carrier *)base)->statements[DROP_RECEIPT];
+    (void)shard;
+    bind_text(drop, 1, session);
+    (void)step_once(drop); /* a fault is reported, and the receipt stays */
+}
+
 /* ---- */
 
 static void close_it(struct carrier *base)
@@ -299,6 +309,7 @@ struct carrier *sqlite_carrier_open(const char *path)
     c->base.behind = behind;
     c->base.acknowledge = acknowledge;
     c->base.receipts = receipts;
+    c->base.forget = forget;
     c->base.close = close_it;
     if (open_it(c, path) == 0)
         return &c->base;

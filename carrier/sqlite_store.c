@@ -233,9 +233,12 @@ static int run_effect(struct store *base, const char *sql, const struct value *v
 {
     struct sqlite_store *s = (struct sqlite_store *)base;
     struct statement *statement = bound(base, sql, values, count);
-    int answer = statement != NULL ? step_once(statement) : -1, why = sqlite3_errcode(s->db);
+    int answer = statement != NULL ? step_once(statement) : -1, why;
     s->refusal[0] = 0;
-    if (answer != 0 && (why == SQLITE_CONSTRAINT || why == SQLITE_MISMATCH || why == SQLITE_TOOBIG))
+    if (answer == 0)
+        return 0;
+    why = sqlite3_errcode(s->db);
+    if (why == SQLITE_CONSTRAINT || why == SQLITE_MISMATCH || why == SQLITE_TOOBIG)
         write_cut(s->refusal, sizeof s->refusal, "%s", sqlite3_errmsg(s->db));
     return answer;
 }

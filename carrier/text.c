@@ -34,6 +34,11 @@ int copy_text(char *to, size_t room, const char *text)
     return 1;
 }
 
+int by_name(const void *one, const void *other)
+{
+    return strcmp(one, other);
+}
+
 void write_hex(const uint8_t *bytes, size_t len, char *to)
 {
     static const char digits[] = "0123456789abcdef";

@@ -44,11 +44,12 @@ int opening_draw(struct kerberos *kerberos, struct opened *it)
     return never();
 }
 
-int opening_back(struct kerberos *kerberos, const struct opened *it, uint8_t back[SESSION_KEY])
+int opening_session(struct kerberos *kerberos, const struct opened *it, unsigned shard, struct session *of)
 {
     (void)kerberos;
     (void)it;
-    (void)back;
+    (void)shard;
+    (void)of;
     return never();
 }
 

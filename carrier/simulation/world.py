@@ -20,6 +20,7 @@ PLANTS = ("confirmations delete", "digests aren't compared", "receipts before th
           "a list that was cut off is waited for", "last in, first out")
 BATCH, SERVICES = 32, 8
 UNTIL, BOUND = 60_000, 500_000
+TAKEN_OVER = 10_000     # until a receiver that is cut off leaves its shard to another one
 
 
 class Wrong(Exception):
@@ -123,7 +124,7 @@ class World:
             self.after(start, self.flags.update, [flag])
             end = min(UNTIL, start + self.rng.randrange(1_000, 20_000))
             self.after(end, self.flags.subtract, [flag])
-        for what in (self.kill_sender, self.kill_receiver, self.begin_list, self.cut_list,
+        for what in (self.kill_sender, self.kill_receiver, self.cut_receiver_off, self.begin_list, self.cut_list,
                      self.write_junk):
             for _ in range(self.rng.choice((0, 0, 1, 3))):
                 self.after(self.rng.randrange(UNTIL), what)
@@ -137,6 +138,18 @@ class World:
     def kill_receiver(self) -> None:
         self.counts["kills"] += 1
         self.rng.choice(self.receivers).load()
+
+    def cut_receiver_off(self) -> None:
+        """A receiver loses the carrier, and not the store: another one takes its shard after a while, and then the
+        first one may be there again."""
+        self.counts["receivers cut off"] += 1
+        receiver = self.rng.choice(self.receivers)
+        receiver.cut_off_until = self.now + self.rng.randrange(1_000, 30_000)
+        self.after(TAKEN_OVER, self.take_over, receiver)
+
+    def take_over(self, receiver: "Receiver") -> None:
+        if receiver.cut_off_until > self.now:
+            self.receivers.append(Receiver(self, receiver.shard))
 
     def begin_list(self) -> None:
         self.lists[self.rng.randrange(self.shards)] = ShardList(self.new_name(), [])
@@ -401,6 +414,7 @@ class Receiver:
 
     def __init__(self, world: World, shard: int) -> None:
         self.world, self.shard, self.turn = world, shard, 0
+        self.cut_off_until = 0
         self.load()
 
     def load(self) -> None:
@@ -413,6 +427,8 @@ class Receiver:
         if turn != self.turn:
             return
         self.world.after(20 + self.world.rng.randrange(20), self.step, turn)
+        if self.cut_off_until > self.world.now:
+            return
         it = self.world.lists[self.shard]
         start = self.reading.read.offset if self.reading.read.list == it.name else 0
         frames = it.items[start:start + BATCH]
@@ -479,6 +495,8 @@ class Receiver:
             self.world.check_effects(session)
 
     def answer(self) -> None:
+        if self.cut_off_until > self.world.now:
+            return
         for session, end in self.ends.items():
             receipt = end.receipt(self.world.now)
             if receipt is not None:

@@ -29,6 +29,11 @@ ssize_t getrandom(void *to, size_t len, unsigned flags)
     return (ssize_t)len;
 }
 
+static int history_is(const struct history *one, const struct history *other)
+{
+    return one->is_known && other->is_known && memcmp(one->bytes, other->bytes, sizeof one->bytes) == 0;
+}
+
 /* A session whose frames are from 10.0.0.1. */
 static struct session session_of(const char *name, uint32_t mode, uint32_t first)
 {
@@ -379,7 +384,8 @@ static void test_done(struct outbox *outbox)
           && outbox_add_frame(outbox, of.name, 5, bytes, 3, &beside) == 0, "frames are stored");
     check(outbox_load(outbox, &of, &it) == 0, "the outbox tells how far a session is");
     it.carried = it.done = 2;
-    check(outbox_set_carried(outbox, of.name, &it) == 0, "the first frame is done");
+    check(outbox_set_carried(outbox, of.name, &it) == 0 && outbox_drop_done(outbox, of.name, it.done) == 0,
+          "the first frame is done");
     outbox_select_frames(outbox, of.name, 0, 10);
     check(outbox_next_frame(outbox, &number, &found, &len) == 1 && number == 2, "the next one is kept");
     outbox_end_frames(outbox);
@@ -395,6 +401,46 @@ static void test_done(struct outbox *outbox)
     found_history = outbox_history(outbox, &of, 1, &unknown, 1);
     check(history_is(&found_history, &of_none), "before the first frame it is that of none");
     outbox_rollback(outbox);
+}
+
+/* The number that a question has for its answer. */
+static int number_of(struct outbox *outbox, const char *question)
+{
+    sqlite3_stmt *select = NULL;
+    int number = -1;
+    check(sqlite3_prepare_v2(outbox->db, question, -1, &select, NULL) == SQLITE_OK, "it is a question");
+    if (sqlite3_step(select) == SQLITE_ROW)
+        number = sqlite3_column_int(select, 0);
+    sqlite3_finalize(select);
+    return number;
+}
+
+static const char five_sessions[] =
+    "WITH RECURSIVE turns (turn) AS (SELECT 1 UNION ALL SELECT turn + 1 FROM turns WHERE turn < 5)"
+    " INSERT INTO opened SELECT 'of-' || turn, 'stream', turn, '', 3, 0, 1, 18, 1, 18, x'00' FROM turns;"
+    "INSERT INTO session (name, next, carried, at, done) SELECT name, 5, 5, 0, 5 FROM opened;"
+    "INSERT INTO frame (session, number, frame) VALUES ('of-4', 4, x'00')";
+
+/* Of five sessions of a stream, and a sixth that begins, those are forgotten that end before the fifth, unless they
+ * or the ones after them have a frame. */
+static void test_ended(struct outbox *outbox)
+{
+    struct begun sixth = { .turn = 6 };
+    struct ended ended = { 0 };
+    strcpy(sixth.opened.stream, "stream");
+    check(sqlite3_exec(outbox->db, five_sessions, NULL, NULL, NULL) == SQLITE_OK, "a stream has five sessions");
+    check(outbox_forget_ended(outbox, &sixth, &ended) == 0 && ended.count == 2 && ended.at[0].shard == 3
+          && strcmp(ended.at[0].name, "of-1") == 0 && strcmp(ended.at[1].name, "of-2") == 0, "two are forgotten");
+    check(number_of(outbox, "SELECT sum(turn) FROM opened") == 3 + 4 + 5
+          && number_of(outbox, "SELECT count(*) FROM session WHERE name LIKE 'of-%'") == 3, "and their rows");
+    check(outbox_forget_ended(outbox, &sixth, &ended) == 0 && ended.count == 2, "no other one");
+    check(sqlite3_exec(outbox->db, "DELETE FROM frame WHERE session = 'of-4';"
+                       "UPDATE session SET done = 4 WHERE name = 'of-3'", NULL, NULL, NULL) == SQLITE_OK
+          && outbox_forget_ended(outbox, &sixth, &ended) == 0 && ended.count == 4, "two more without the frame");
+    check(number_of(outbox, "SELECT sum(turn) FROM opened") == 5
+          && number_of(outbox, "SELECT count(*) FROM session WHERE name IN ('of-3', 'of-5')") == 2
+          && number_of(outbox, "SELECT count(*) FROM session WHERE name = 'of-4'") == 0,
+          "the row of one of which something waits for a receipt stays");
 }
 
 /* Who opens the outbox takes the turn. */
@@ -434,6 +480,7 @@ int main(int count, char **words)
     test_compare(&outbox);
     test_bound(&outbox);
     test_done(&outbox);
+    test_ended(&outbox);
     test_owner(&outbox, path);
     outbox_close(&outbox);
     puts("passed");

@@ -15,14 +15,14 @@ FOLDERS = "/usr/sbin:/usr/bin:/sbin:/bin"
 class Realm:
     """A realm with its KDC, until stop."""
 
-    def __init__(self, folder):
-        self.folder, self.port = folder, engines.free_ports(1)[0]
+    def __init__(self, folder, env=None):
+        self.folder, self.port, self.env = folder, engines.free_ports(1)[0], env
         self.process = None
         self.start()
 
     def start(self):
         self.process = subprocess.Popen([REALM_SCRIPT, self.folder, str(self.port), REALM],
-                                        stdout=subprocess.PIPE, text=True)
+                                        stdout=subprocess.PIPE, text=True, env=self.env)
         lines = [self.process.stdout.readline() for _ in range(2)]
         if not all(lines):
             raise RuntimeError(f"no realm: {lines}")

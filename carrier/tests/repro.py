@@ -4,6 +4,7 @@ within how many seconds. What more has to hold, such as a line of the log, is as
 each case.
 """
 import collections
+import contextlib
 import dataclasses
 import glob
 import os
@@ -11,6 +12,7 @@ import shutil
 import signal
 import socket
 import sqlite3
+import struct
 import subprocess
 import threading
 import time
@@ -113,6 +115,13 @@ class Place(errors.Ends):
             self.faults += [f"a log has {word}" for word in secrets if word in self.log(process)]
             if process.returncode != 2 and not {"--help", "--version"} & set(process.args):
                 self.faults += loglines.faults(self.log(process))
+
+    def step_clocks(self, seconds):
+        """From now on the wall clock of what is started after the first call is ahead by so many seconds."""
+        path = f"{self.folder}/conditions"
+        with open(os.open(path, os.O_WRONLY | os.O_CREAT), "wb") as file:
+            file.write(struct.pack("qq", seconds, 0))
+        self.env = {**self.env, "LD_PRELOAD": f"{self.programs}/conditions.so", "CONDITIONS": path}
 
     # ---- outbox, carrier and store
 
@@ -623,7 +632,7 @@ def gap(place):
 
 WORDS = {"sender": "word-of-the-sender", "receiver": "word-of-the-receiver"}
 MAY = {"sender": ("krb.>", "$JS.API.STREAM.INFO.>", "$JS.API.STREAM.CREATE.>", "$JS.API.CONSUMER.*.KRB_RECEIPTS.>",
-                  "$JS.API.CONSUMER.*.KRB_RECEIPTS"),
+                  "$JS.API.CONSUMER.*.KRB_RECEIPTS", "$JS.API.STREAM.PURGE.KRB_RECEIPTS"),
        "receiver": ("krbr.>", "$JS.API.STREAM.INFO.>", "$JS.API.STREAM.CREATE.KRB_RECEIPTS", "$JS.API.CONSUMER.>",
                     "$JS.FC.>")}
 HEARS = {"sender": ("_INBOX.>", "krbr.>"), "receiver": ("_INBOX.>",)}
@@ -765,6 +774,70 @@ def shared_shards(place):
     require_end(place, second, "a receiver that shares")
 
 
+class Way:
+    """A way to a port, on which nothing passes while it is held."""
+
+    def __init__(self, target):
+        self.target, self.is_held, self.ends = target, False, []
+        self.listener = socket.create_server(("127.0.0.1", 0))
+        self.port = self.listener.getsockname()[1]
+        threading.Thread(target=self.accept, daemon=True).start()
+
+    def accept(self):
+        while True:
+            try:
+                one = self.listener.accept()[0]
+                other = socket.create_connection(("127.0.0.1", self.target))
+            except OSError:
+                return
+            self.ends += [one, other]
+            for source, to in ((one, other), (other, one)):
+                threading.Thread(target=self.carry, args=(source, to), daemon=True).start()
+
+    def carry(self, source, to):
+        try:
+            while data := source.recv(65536):
+                while self.is_held:
+                    time.sleep(0.05)
+                to.sendall(data)
+        except OSError:
+            pass
+        to.close()
+
+    def stop(self):
+        self.is_held = False
+        for it in (self.listener, *self.ends):
+            it.close()
+
+
+def shared_cut_off(place):
+    """The way of one of two receivers to the broker is held: the other one takes its shards. Then it is free again."""
+    port = engines.free_ports(1)[0]
+    way = Way(place.nats.ports[0])
+    try:
+        place.put(of_eight(0, 5))
+        place.start("sender")
+        first = place.start("receiver")
+        require_served(place, [first], [8], 8)
+        second = place.start("receiver", carrier=f"nats://127.0.0.1:{way.port}", metrics=f"127.0.0.1:{port}")
+        require_served(place, [first, second], [4, 4], 8)
+        place.await_delivered({f"t{it}": 5 for it in range(8)})
+        way.is_held = True
+        place.put(of_eight(5, 10))
+        require_served(place, [first, second], [8, 0], 25)
+        place.require(place.wait(lambda: place.is_delivered({f"t{it}": 10 for it in range(8)}), 10),
+                      f"{sum(len(it) == 10 for it in place.delivered().values())} of 8 sessions went on")
+        place.require(loglines.has(place.log(second), "receiver_cut_off"), "it doesn't say why")
+        place.require(place.wait(lambda: get(port, "/healthz")[0] == 503, 15), "it is told to be well")
+        way.is_held = False
+        require_served(place, [first, second], [4, 4], 15)
+        place.require(place.wait(lambda: get(port, "/healthz")[0] == 200, 5), "it isn't told to be well again")
+        place.put(of_eight(10, 15))
+        place.await_delivered()
+    finally:
+        way.stop()
+
+
 def shared_new_shard(place):
     """A session in a shard that no session was in gets a line."""
     place.put(texts("ann", 0, 5))
@@ -785,6 +858,62 @@ def shared_until_closed(place):
     place.await_delivered()
     ended = place.wait(lambda: all(it.poll() == 0 for it in receivers), 10)
     place.require(ended, f"they have ended: {[it.poll() for it in receivers]}")
+
+
+# ---- clocks that are set while programs run
+
+HOUR = 3600
+
+
+def watchdog(place, name):
+    """A socket that gets what a program tells its supervisor."""
+    socket_of = socket.socket(socket.AF_UNIX, socket.SOCK_DGRAM)
+    socket_of.bind(f"{place.folder}/{name}.notify")
+    socket_of.setblocking(False)
+    return socket_of
+
+
+def told_alive(told):
+    """How often a program has told since the last question that it is alive."""
+    count = 0
+    with contextlib.suppress(BlockingIOError):
+        while True:
+            count += b"WATCHDOG=1" in told.recv(200)
+    return count
+
+
+def clock_back(place):
+    """The broker is killed while both ends wait for it, and their clocks are set back by an hour: both tell that they
+    are alive all the while, and go on as soon as it is there. Then they are set back where nothing waits."""
+    place.step_clocks(0)
+    told = {name: watchdog(place, name) for name in ("sender", "receiver")}
+    place.put(texts("ann", 0, 20))
+    for name in told:
+        place.start(name, told=f"{place.folder}/{name}.notify")
+    place.require(place.wait(lambda: place.is_delivered({"ann": 20}), 8), "nothing is delivered")
+    place.nats.kill(0)
+    place.put(texts("ann", 20, 40))
+    time.sleep(0.3)
+    place.step_clocks(-HOUR)
+    for name in told:
+        told_alive(told[name])
+    time.sleep(5)
+    alive = {name: told_alive(told[name]) for name in told}
+    place.require(min(alive.values()) >= 3, f"in five seconds they tell so often that they are alive: {alive}")
+    place.nats.start(0)
+    place.require(place.wait(lambda: place.is_delivered({"ann": 40}), 15), "not whole 15 s after the broker is back")
+    place.step_clocks(-2 * HOUR)
+    time.sleep(3)
+    for name in told:
+        told_alive(told[name])
+    place.put(texts("ann", 40, 60))
+    place.require(place.wait(lambda: place.is_delivered({"ann": 60}), 8), "nothing goes on after a step back")
+    place.require(place.wait(lambda: place.count("outbox", "frame") == 0, 8), "no receipt comes after a step back")
+    time.sleep(3)
+    alive = {name: told_alive(told[name]) for name in told}
+    place.require(min(alive.values()) >= 2, f"after it they tell so often that they are alive: {alive}")
+    for it in told.values():
+        it.close()
 
 
 # ---- numbers
@@ -1375,6 +1504,10 @@ CASES = (
          {f"t{it}": 15 for it in range(8)}, 25, EIGHT, "auto"),
     Case(shared_new_shard, "a session in a new shard gets a line", {"ann": 5, "tom": 5}, 15, (ANN,),
          "auto"),
+    Case(shared_cut_off, "one of two receivers that share shards loses the broker, and not the store",
+         dict.fromkeys((f"t{it}" for it in range(8)), 15), 90, EIGHT, shards="auto", nats=""),
+    Case(clock_back, "the clocks of both ends are set back by an hour while the broker is away",
+         {"ann": 60}, 45, (ANN,), nats=""),
     Case(shared_until_closed, "receivers that share shards, until all is closed",
          {f"t{it}": 5 for it in range(8)}, 20, EIGHT, "auto"),
     Case(restore_outbox, "the outbox is restored from a backup that is 100 texts old",

@@ -17,6 +17,7 @@ WITH_RECEIPTS = ANN.rstrip("\n") + f" {'33' * 16}\n"
 OTHERS = 65_536         # frames of others
 FIRST_TEXTS, MANY_FIRST = 2_048, 20_000     # sessions with a text each
 MANY = 40               # sessions that wait for a receipt
+SOON = 0.1              # seconds
 SHARDS, IN_EACH = 32, 1_000
 LATER = 5_000           # frames after others, more than are read again at a shard's end
 
@@ -472,10 +473,21 @@ def receipts_node_away(place):
     place.put([row for name in waiting for row in texts(name, 2, 3)])
     time.sleep(3)
     place.start("receiver", sessions=place.other([ANN]))
-    for it in range(1, 21):
-        place.put(texts("ann", it, it + 1))
-        time.sleep(0.1)
+    took = [time_until_delivered(place, "ann", it) for it in range(1, 121)]
     place.require(place.wait(lambda: place.is_delivered(place.case.wanted), 5), "another session stands")
+    place.told = f"; a text after {sorted(took)[len(took) // 2]:.3f} s (median), {max(took):.3f} s at most"
+    late = [it for it in took[10:] if it > SOON]     # the first ones may come before the stream has a leader
+    place.require(len(late) <= 2, f"late: {late}")
+
+
+def time_until_delivered(place, name, number):
+    """Puts a text, and sees how long it takes until it has its effect: seconds."""
+    place.put(texts(name, number, number + 1))
+    began = time.monotonic()
+    wanted = f"SELECT count(*) FROM effect WHERE session = '{name}'"
+    while place.ask("store", wanted)[0][0] <= number and time.monotonic() - began < 5:
+        time.sleep(0.002)
+    return time.monotonic() - began
 
 
 def first_texts(place):
@@ -644,7 +656,7 @@ CASES = (
     Case(backlog_of_shards, "32 shards with a backlog of 1,000 texts each", {}, 60, shard_lines(), nats=""),
     Case(node_stopped_with_backlogs, "a node stands for 12 s, and 32 shards have texts", {}, 90, shard_lines(),
          nats=""),
-    Case(receipts_node_away, "the stream of receipts has one replica, whose node is away", {"ann": 21}, 90,
+    Case(receipts_node_away, "the stream of receipts has one replica, whose node is away", {"ann": 121}, 90,
          (ANN, *many_lines()), "0,1"),
     Case(credentials_refused, "a node refuses the password for some seconds", {"ann": 2}, 60, (ANN,),
          nats='authorization { user: "krb", password: "one" }\n'),

@@ -619,6 +619,49 @@ def short_life(place):
     place.require(count == 4, f"{count} sessions")
 
 
+def clocks_on(place):
+    """All clocks are set on by two days, as after a sleep, so that the ticket has ended: sessions that have begun go
+    on, and a new one begins at once, since another ticket is asked for."""
+    place.step_clocks(0)
+    realm = realms.Realm(f"{place.folder}/realm", place.env)
+    try:
+        place.realm, place.env = realm, {**realm.environment(), **{name: place.env[name] for name in
+                                                                   ("LD_PRELOAD", "CONDITIONS")}}
+        place.keytab, place.receiver_keytab = realm.path("sender.keytab"), realm.path("receiver.keytab")
+        place.put(streams_of(place, 10, streams=("orders",)))
+        place.start("sender")
+        place.start("receiver", skew=str(7 * DAY))
+        place.require(place.wait(lambda: len(place.delivered()["orders"]) == 10, 8), "nothing is delivered")
+        place.step_clocks(2 * DAY)
+        place.put(streams_of(place, 20, 10, streams=("orders",)))
+        place.require(place.wait(lambda: len(place.delivered()["orders"]) == 20, 8), "the session stands")
+        place.put(streams_of(place, 20, streams=("bills",)))
+        place.require(place.wait(lambda: len(place.delivered()["bills"]) == 20, 12), "no new session begins")
+        place.await_delivered()
+    finally:
+        realm.stop()
+
+
+def sessions_end(place):
+    """--life 1: a session of each stream a second. Those that have ended leave the outbox and the receipts, and both
+    ends' memory once they are as many as the others."""
+    streams = tuple(place.case.wanted)
+    place.put([])
+    sender, receiver = place.start("sender", life="1"), place.start("receiver")
+    for it in range(place.case.wanted[streams[0]]):
+        place.put([(name, f"{name} {it}".encode()) for name in streams])
+        time.sleep(1.05)
+    place.await_delivered()
+    receipts.await_no_frames(place)
+    for name, process in (("sender", sender), ("receiver", receiver)):
+        place.require(loglines.has(place.log(process), "sessions_forgotten"), f"{name}: nothing is forgotten")
+    opened = place.count("store", "opened")
+    place.require(opened >= 20 * len(streams), f"{opened} sessions")
+    for of, table in (("outbox", "opened"), ("outbox", "session"), ("carrier", "receipt")):
+        rows = place.count(of, table)
+        place.require(rows <= 4 * len(streams), f"{of}: {rows} rows of {table} are left of {opened} sessions")
+
+
 def opening_anew(place):
     """An opening of five seconds ago, by a clockskew of three; the sender makes it anew."""
     place.env = place.realm.environment(place.realm.config(f"{place.folder}/krb5.conf", 3))
@@ -862,6 +905,9 @@ CASES = (
     Case(restored_streams, "an outbox of streams is restored while both ends run", {"orders": 0, "bills": 0},
          60),
     Case(short_life, "--life 1, and both ends are killed", {"orders": 400}, 25),
+    Case(clocks_on, "all clocks are set on by two days", {"orders": 20, "bills": 20}, 40),
+    Case(sessions_end, "100 streams begin a session each second, and what has ended is forgotten",
+         {f"stream-{it}": 26 for it in range(100)}, 90),
     Case(at_rest, "keys at rest, and newer keys in the keytabs", {"orders": 100, "bills": 100}, 30),
     Case(exchanged_rows, "wrapped keys of two rows are exchanged", {"one": 20, "two": 20}, 25),
     Case(words, "options that don't go together", {}, 5),
