@@ -76,28 +76,71 @@ static void publishes(void)
     uint32_t told = 99;
     IS(krbrelay_sending_load(&s, 0, 0, 0, 0, 5, 0));
     CHECK(is_command(&s, 256, 0, idle));
-    CHECK(state(&s).settled == 1 && state(&s).room == 16 && state(&s).stands == KRBRELAY_STANDS_NOT);
-    IS(krbrelay_sending_sealed(&s, 20));
-    CHECK(is_command(&s, 256, 0, publish(0, 8)));
-    CHECK(is_command(&s, 3, 0, publish(8, 3)));
-    CHECK(is_command(&s, 256, 0, publish(11, 5)));
-    CHECK(state(&s).under_way == 16 && state(&s).settled == 0 && state(&s).room == 0);
+    CHECK(state(&s).settled == 1 && state(&s).room == 256 && state(&s).stands == KRBRELAY_STANDS_NOT);
+    IS(krbrelay_sending_sealed(&s, 40));
+    CHECK(is_command(&s, 3, 0, publish(0, 3)));
+    CHECK(is_command(&s, 256, 0, publish(3, 13)));
+    CHECK(state(&s).under_way == 16 && state(&s).settled == 0 && state(&s).room == 216);
     CHECK(is_command(&s, 256, 0, wake(2000)));
     IS(krbrelay_sending_confirmed(&s, 0, 1, 100, &told));
     CHECK(told == 1 && s.progress.carried == 1);
     IS(krbrelay_sending_confirmed(&s, 0, 2, 100, &told));
     CHECK(told == 0 && s.progress.carried == 1);
-    CHECK(is_command(&s, 256, 100, publish(16, 1)));
+    CHECK(is_command(&s, 256, 100, publish(16, 2)));
     CHECK(is_command(&s, 256, 2099, wake(2100)));
-    CHECK(is_command(&s, 256, 2100, publish(1, 8)));
+    CHECK(is_command(&s, 256, 2100, publish(1, 16)));
     CHECK(state(&s).stands == KRBRELAY_STANDS_UNCONFIRMED);
     IS(krbrelay_sending_reconnected(&s));
-    CHECK(is_command(&s, 256, 2200, publish(1, 8)));
+    CHECK(is_command(&s, 256, 2200, publish(1, 16)));
     IS(krbrelay_sending_listed(&s, 5, &told));
     CHECK(told == 0 && s.list == 5);
     IS(krbrelay_sending_listed(&s, 6, &told));
     CHECK(told == 1 && s.list == 6);
-    CHECK(is_command(&s, 256, 2300, publish(0, 8)));
+    CHECK(is_command(&s, 256, 2300, publish(0, 16)));
+}
+
+/* Publishes all that may leave: how many are under way then. */
+static uint64_t publish_all(struct krbrelay_sending *s, uint64_t now)
+{
+    struct krbrelay_command command = { .kind = KRBRELAY_COMMAND_PUBLISH };
+    while (command.kind == KRBRELAY_COMMAND_PUBLISH) {
+        IS(krbrelay_sending_serve(s, 4096, now, &command));
+        CHECK(command.kind != KRBRELAY_COMMAND_PUBLISH || command.count <= 16);
+    }
+    return state(s).under_way;
+}
+
+static void confirm_all(struct krbrelay_sending *s, uint64_t now)
+{
+    uint32_t told = 0;
+    while (s->progress.carried < s->progress.sent) {
+        IS(krbrelay_sending_confirmed(s, s->progress.carried, s->progress.at + 1, now, &told));
+        CHECK(told == 1);
+    }
+}
+
+/* As many frames more may be under way as were confirmed, up to 256; few where a confirmation is missing, and in
+ * a recovery no more than receipts say. */
+static void widens(void)
+{
+    static const uint64_t wanted[] = { 16, 32, 64, 128, 256, 256 };
+    struct krbrelay_sending s;
+    IS(krbrelay_sending_load(&s, 5000, 0, 0, 0, 5, 0));
+    for (size_t i = 0; i < sizeof wanted / sizeof *wanted; i++) {
+        CHECK(publish_all(&s, 0) == wanted[i]);
+        confirm_all(&s, 0);
+    }
+    CHECK(publish_all(&s, 0) == 256 && publish_all(&s, 2000) == 16 && s.window == 16);
+    confirm_all(&s, 2000);
+    CHECK(publish_all(&s, 2000) == 32);
+    confirm_all(&s, 2000);
+    CHECK(hears(&s, 10, own, KRBRELAY_ASKS_NOTHING, 2100) == KRBRELAY_HEARD_DELIVERED);
+    CHECK(hears(&s, 10, own, KRBRELAY_ASKS_MISSING, 2100) == KRBRELAY_HEARD_NOTHING && s.window == 1);
+    CHECK(publish_all(&s, 2100) == 1);
+    confirm_all(&s, 2100);
+    CHECK(publish_all(&s, 2100) == 0 && s.window == 1);
+    CHECK(hears(&s, 11, own, KRBRELAY_ASKS_NOTHING, 2200) == KRBRELAY_HEARD_DELIVERED && s.window == 2);
+    CHECK(publish_all(&s, 2200) == 2);
 }
 
 static void hears_receipts(void)
@@ -396,6 +439,7 @@ static void many(size_t count)
 int main(int argc, char **argv)
 {
     publishes();
+    widens();
     hears_receipts();
     stops(5, own, KRBRELAY_ENDED_OLDER, KRBRELAY_STANDS_OLDER);
     stops(3, other, KRBRELAY_ENDED_FORKED, KRBRELAY_STANDS_FORKED);

@@ -18,7 +18,7 @@ def call_sending(rng: random.Random, end: Any, now: int) -> None:
     it = end.stored
     what = rng.randrange(9)
     if what == 0:
-        end.sealed(rng.randrange(20))
+        end.sealed(rng.choice((rng.randrange(20), rng.randrange(400))))
     elif what == 1:
         end.confirmed(it.carried + rng.choice((0, 0, 0, 1)), it.at + rng.randrange(4), now)
     elif what == 2:
@@ -93,11 +93,11 @@ def draw_flow(rng: random.Random, ends: Ends) -> None:
     flow, sessions = ends.flow(), [0] * 5
     for _ in range(CALLS):
         place = rng.randrange(5)
-        flow.moved(sessions[place], now := rng.choice((0, rng.randrange(16), rng.randrange(200))))
+        flow.moved(sessions[place], now := rng.choice((0, rng.randrange(16), rng.randrange(800))))
         sessions[place] = now
         if rng.random() < 0.2:
             flow.list = rng.choice((None, rng.randrange(9)))
-        assert flow.room == (0 if flow.list is None else max(0, 256 - sum(sessions)))
+        assert flow.room == (0 if flow.list is None else max(0, 2_048 - sum(sessions)))
 
 
 DRAWS = {"a session's end at a sender": draw_sending, "a session's end at a receiver": draw_receiving,

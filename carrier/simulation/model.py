@@ -13,7 +13,7 @@ from ends import (
     Asks, Command, Ended, Heard, Idle, Outcome, Probe, Publish, Read, Receipt, Row, Spot, Stands, Stored,
     Wake)
 
-WINDOW, SERVICE, UNDER_WAY = 16, 8, 256
+WINDOW, WINDOW_MOST, SERVICE, UNDER_WAY = 16, 256, 16, 2_048
 AGAIN, AGAIN_MOST = 2_000, 64_000
 PROBE, PROBE_MOST = 5_000, 960_000
 ASK, ASK_MOST = 4_000, 64_000
@@ -107,6 +107,8 @@ class Sending:
             return False
         if self.carried == self.done:
             self.probe = Pause(now, PROBE)
+        if self.done >= self.recovers:
+            self.window = min(self.window + 1, WINDOW_MOST)
         self.carried, self.at = self.carried + 1, offset
         self.sent = max(self.sent, self.carried)
         self.again = Pause(now, AGAIN)
@@ -148,7 +150,7 @@ class Sending:
         if number > self.carried:
             self.carried = self.sent = number
             self.at = 0
-        self.done, self.window = number, min(2 * self.window, WINDOW)
+        self.done, self.window = number, min(2 * self.window, WINDOW_MOST)
         self.ask, self.is_held, self.is_answered = None, False, True
         self.probe = Pause(now, PROBE)
 
@@ -168,7 +170,7 @@ class Sending:
 
     def serve(self, room: int, now: int) -> Command:
         if self.carried < self.sent and self.again.is_over(now):
-            self.sent = self.carried
+            self.sent, self.window = self.carried, min(self.window, WINDOW)
             self.again.grow(AGAIN_MOST, now)
         if self.is_settled:
             return Idle()
@@ -183,7 +185,7 @@ class Sending:
 
     def batch(self, room: int) -> int:
         recovery = self.done + self.window - self.sent if self.done < self.recovers else SERVICE
-        window = self.carried + WINDOW - self.sent
+        window = self.carried + min(self.window, WINDOW_MOST) - self.sent
         return max(0, min(SERVICE, room, self.next - self.sent, window, recovery))
 
     def publish(self, count: int, now: int) -> Publish:
@@ -212,7 +214,7 @@ class Sending:
 
     @property
     def sealing_room(self) -> int:
-        return 0 if self.ended else max(0, WINDOW - (self.next - self.carried))
+        return 0 if self.ended else max(0, WINDOW_MOST - (self.next - self.carried))
 
     @property
     def stands(self) -> Optional[Stands]:

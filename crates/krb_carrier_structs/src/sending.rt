@@ -22,7 +22,7 @@ pub struct KrbSending {
     pub list: u64,
     /// Until `done` reaches this number, no more than `window` frames from `done` on leave.
     pub recovers: u64,
-    /// How many frames from `done` on leave while it recovers: not 0.
+    /// How many frames may be under way: not 0.
     pub window: u64,
     /// Since a receiver was heeded that asked again, if `is_asked`.
     pub ask: KrbPause,

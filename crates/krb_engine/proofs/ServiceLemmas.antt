@@ -110,7 +110,7 @@ module _ (state : SendingState) where
   -- if nothing is under way or unanswered, something may leave
   has_batch : (room : ℕ) → 0 < room → 0 < state.window → state.progress.sent ≤ state.progress.carried → state.progress.carried ≤ state.done → state.progress.sent < state.progress.next → state.done ≤ state.progress.carried
       → state.progress.carried ≤ state.progress.sent → 0 < batch state room
-  has_batch room some window a b c d e = omega (arith, by_test (nat_lt state.done state.recovers), some, a, b, c, d, e)
+  has_batch room some window a b c d e = omega (arith, by_test (nat_lt state.done state.recovers), some, window, a, b, c, d, e)
     where
       by_test : (t : Bool) → 0 < (if t then state.done + state.window - state.progress.sent else service_most)
       by_test true = omega (arith, window, a, b, d, e)
@@ -155,7 +155,7 @@ looked_end old now is = by_test (is_lost old now)
       done = is.done;
       carried = omega arith;
       sent = omega (arith, is.carried, is.sent);
-      window = is.window;
+      window = omega (arith, is.window);
     }
     by_test false = is
 

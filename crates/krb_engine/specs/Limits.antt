@@ -1,13 +1,16 @@
 -- How many frames are under way, and how long pauses are, in milliseconds.
 use Rattle.std.specs.Prelude.{ℕ}
 
--- so many frames of a session at most
+-- so many frames of a session at first, and at most
+abbrev pub window_first : ℕ
+window_first = 16
+
 abbrev pub window_most : ℕ
-window_most = 16
+window_most = 256
 
 -- so many frames in one service at most
 abbrev pub service_most : ℕ
-service_most = 8
+service_most = 16
 
 -- until what wasn't confirmed is published again, at first and at most
 abbrev pub again_first : ℕ
@@ -32,4 +35,4 @@ ask_most = 64000
 
 -- so many frames of a shard are under way at most
 abbrev pub under_way_most : ℕ
-under_way_most = 256
+under_way_most = 2048

@@ -5,7 +5,7 @@ use Rattle.krb_queue.specs.declared.pause.Pause.{Pause}
 use Rattle.krb_queue.specs.Pause.{begun, longer}
 use Rattle.krb_carry.specs.ProgressState.{ProgressState}
 use Rattle.krb_carry.specs.Progress.{Store, Publish, Rewind, Confirm, after, resumed, counted}
-use Rattle.krb_engine.specs.Limits.{window_most, service_most, again_first, again_most, probe_first, probe_most, ask_first, ask_most}
+use Rattle.krb_engine.specs.Limits.{window_first, window_most, service_most, again_first, again_most, probe_first, probe_most, ask_first, ask_most}
 use Rattle.krb_copies.specs.declared.receipt.Finding.{Finding}
 use Rattle.krb_copies.specs.declared.receipt.Finding.TheVariants as findings
 use Rattle.krb_engine.specs.declared.sending.Ended.{Ended}
@@ -39,7 +39,7 @@ loaded next carried at done list now = record {
   done = done;
   list = list;
   recovers = done;
-  window = window_most;
+  window = window_first;
   ask = None;
   is_held = false;
   again = begun again_first now;
@@ -52,11 +52,17 @@ loaded next carried at done list now = record {
 abbrev pub sealed : SendingState → ℕ → SendingState
 sealed state count = record state { progress = after state.progress (Store count) }
 
--- A confirmation counts: what is under way has its time anew. The first frame that is carried and has no
--- receipt is due one from now on.
+-- one frame more may be under way, as long as it doesn't recover
+abbrev pub wider : SendingState → ℕ
+wider state =
+    if nat_lt state.done state.recovers then state.window else min (state.window + 1) window_most
+
+-- A confirmation counts: what is under way has its time anew, and one frame more may be. The first frame that
+-- is carried and has no receipt is due one from now on.
 abbrev pub confirmed : SendingState → ℕ → ℕ → SendingState
 confirmed state offset now = record state {
   progress = counted state.progress offset;
+  window = wider state;
   again = begun again_first now;
   probe = if state.progress.carried == state.done then begun probe_first now else state.probe;
 }
@@ -157,13 +163,15 @@ heeded state number it now = if is_asked state number it now then asked state it
 
 -- ---- what is to be done
 
--- what was published and isn't confirmed after the pause counts as not published, and the pause doubles
+-- What was published and isn't confirmed after the pause counts as not published, the pause doubles, and few
+-- frames may be under way again.
 abbrev pub is_lost : SendingState → ℕ → Bool
 is_lost state now = nat_lt state.progress.carried state.progress.sent && is_over state.again now
 
 abbrev pub lost : SendingState → ℕ → SendingState
 lost state now = record state {
   progress = after state.progress Rewind;
+  window = min state.window window_first;
   again = longer again_most state.again now;
 }
 
@@ -185,7 +193,7 @@ abbrev pub batch : SendingState → ℕ → ℕ
 batch state room =
     min (min service_most room)
     (min (state.progress.next - state.progress.sent)
-    (min (state.progress.carried + window_most - state.progress.sent) (recovery_room state)))
+    (min (state.progress.carried + min state.window window_most - state.progress.sent) (recovery_room state)))
 
 -- nothing holds it back
 abbrev pub is_free : SendingState → ℕ → Bool

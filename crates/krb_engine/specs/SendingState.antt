@@ -5,7 +5,7 @@ use Rattle.krb_carry.specs.ProgressState.{ProgressState}
 use Rattle.krb_engine.specs.declared.sending.Ended.{Ended}
 
 -- How far the frames are carried, for which list of the shard, and below which number they took effect.
--- While `done` is below `recovers`, `window` frames from `done` on may leave. Since when a receiver was
+-- `window` frames may be under way, and while `done` is below `recovers`, so many from `done` on may leave. Since when a receiver was
 -- heeded that asked again, and whether nothing leaves until that pause is over; since when something
 -- was published or confirmed, and a receipt was due; whether a receipt came, and why it is stopped.
 pub record SendingState : Type 0 where

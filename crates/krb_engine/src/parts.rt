@@ -20,7 +20,7 @@ pub struct SendingParts {
     pub list: u64,
     /// Until `done` reaches this number, no more than `window` frames from `done` on leave.
     pub recovers: u64,
-    /// How many frames from `done` on leave while it recovers.
+    /// How many frames may be under way.
     pub window: u64,
     /// Since a receiver was heeded that asked again.
     pub ask: Option<Pause>,

@@ -3,7 +3,7 @@
 ghost use Rattle.std.specs.Prelude.{◌≡◌, ◌↔◌, ◌+◌, ◌-◌, ◌<◌, ◌≤◌, ◌^◌, IfSome, IsSome, IsTrue, if◌then◌else◌, ◌≢◌};
 ghost use Rattle.krb_carry.specs.Progress.{Counts};
 ghost use Rattle.krb_copies.specs.Receipt.{Finds};
-ghost use Rattle.krb_engine.specs.Sending.{ask_end, batch, begins, confirmed, found, heard_of, heeded, is_asked, is_free, is_settled, is_unanswered, listed, loaded, looked, may_ask, next_ask, probed, published, reconnected, recovery_room, sealed, sealing_room, settled, stands, wake_time};
+ghost use Rattle.krb_engine.specs.Sending.{ask_end, batch, begins, confirmed, found, heard_of, heeded, is_asked, is_free, is_settled, is_unanswered, listed, loaded, looked, may_ask, next_ask, probed, published, reconnected, recovery_room, sealed, sealing_room, settled, stands, wake_time, wider};
 ghost use Rattle.krb_engine.specs.Parts.{end_of_parts};
 ghost use Rattle.krb_engine.specs.SendingState.{IsEnd};
 ghost use Rattle.krb_engine.specs.Calls.{Hears, IsProbe, Serves};
@@ -15,11 +15,13 @@ use krb_history::HISTORY_SIZE;
 use krb_queue::Pause;
 use std::marker::Model;
 
-/// How many frames of a session are under way at most.
+/// How many frames of a session are under way, at first and at most.
 const WINDOW: u64 = 16;
 
+const WINDOW_MOST: u64 = 256;
+
 /// How many frames leave in one service at most.
-const SERVICE: u64 = 8;
+const SERVICE: u64 = 16;
 
 /// After how many milliseconds a frame is published again that wasn't confirmed, at first and at most.
 const AGAIN: u64 = 2_000;
@@ -103,7 +105,7 @@ pub struct Sending {
     done: u64,
     // the list of the shard for which `progress` counts
     list: u64,
-    // until `done` reaches this number, no more than `window` frames from `done` on leave
+    // so many frames may be under way; until `done` reaches `recovers`, so many from `done` on may leave
     recovers: u64,
     window: u64,
     // since a receiver was heeded that asked again
@@ -218,10 +220,21 @@ impl Sending {
             return false;
         }
         self.again = Pause::begin(AGAIN, now);
+        self.window = self.wider();
         if is_first {
             self.probe = Pause::begin(PROBE, now);
         }
         true
+    }
+
+    /// How many frames may be under way after a confirmation: one more, as long as it doesn't recover.
+    fn wider(&self) -> u64
+        ensures { result ≡ wider self.now }
+    {
+        if self.done < self.recovers {
+            return self.window;
+        }
+        self.window.saturating_add(1).min(WINDOW_MOST)
     }
 
     /// The shard has this list: whether it had a different one. Then what that one confirmed may be
@@ -299,7 +312,7 @@ impl Sending {
             self.progress = Progress::new(self.progress.next(), number, 0);
         }
         self.done = number;
-        self.window = self.window.saturating_mul(2).min(WINDOW);
+        self.window = self.window.saturating_mul(2).min(WINDOW_MOST);
         self.ask = None;
         self.is_held = false;
         self.probe = Pause::begin(PROBE, now);
@@ -342,12 +355,13 @@ impl Sending {
         self.command(room, now)
     }
 
-    /// What wasn't confirmed in time counts as not published.
+    /// What wasn't confirmed in time counts as not published, and few frames may be under way again.
     fn look(&mut self, now: u64)
         ensures { self.new ≡ looked self.old now }
     {
         if self.progress.carried() < self.progress.sent() && self.again.is_over(now) {
             self.progress.rewind();
+            self.window = self.window.min(WINDOW);
             self.again.grow(AGAIN_MOST, now);
         }
     }
@@ -386,7 +400,7 @@ impl Sending {
     {
         let stored = self.progress.next() - self.progress.sent();
         let under_way = self.progress.sent() - self.progress.carried();
-        let free = WINDOW.saturating_sub(under_way);
+        let free = self.window.min(WINDOW_MOST).saturating_sub(under_way);
         SERVICE
             .min(room)
             .min(stored.min(free.min(self.recovery_room())))
@@ -488,7 +502,7 @@ impl Sending {
         if self.ended.is_some() {
             return 0;
         }
-        WINDOW.saturating_sub(self.progress.next() - self.progress.carried())
+        WINDOW_MOST.saturating_sub(self.progress.next() - self.progress.carried())
     }
 
     /// Why it stands, if it does.

@@ -5,7 +5,7 @@ ghost use Rattle.krb_engine.specs.Shards.{ReadsOn, moved, read_to, room_of, take
 ghost use Rattle.krb_engine.specs.ShardLaws.{FewAreUnderWay, NothingIsSkipped, OneTransactionAfterAnother, UnderWayIsTheSum};
 
 /// How many frames of a shard are under way at most.
-const UNDER_WAY: u64 = 256;
+const UNDER_WAY: u64 = 2_048;
 
 /// A shard at a sender.
 #[derive(Clone, Copy, Debug, PartialEq, Eq)]

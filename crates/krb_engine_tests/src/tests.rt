@@ -49,39 +49,38 @@ fn a_pause_doubles_up_to_its_cap(rt: HostRuntime) {
 fn frames_leave_until_the_window_is_full(rt: HostRuntime) {
     let mut sending = Sending::load(0, 0, 0, 0, 5, 0);
     assert_eq!(rt; sending.serve(256, 0), Command::Idle);
-    sending.sealed(20);
+    sending.sealed(40);
+    assert_eq!(rt; sending.serve(3, 0), Command::Publish { from: 0, count: 3 });
     assert_eq!(rt;
         sending.serve(256, 0),
-        Command::Publish { from: 0, count: 8 }
-    );
-    assert_eq!(rt; sending.serve(3, 0), Command::Publish { from: 8, count: 3 });
-    assert_eq!(rt;
-        sending.serve(256, 0),
-        Command::Publish { from: 11, count: 5 }
+        Command::Publish { from: 3, count: 13 }
     );
     assert_eq!(rt; sending.serve(256, 0), Command::Wake { at: 2_000 });
+    // with each frame that is confirmed one more may be under way
     assert!(rt; sending.confirmed(0, 1, 100));
     assert!(rt; !sending.confirmed(0, 2, 100));
     assert_eq!(rt;
         sending.serve(256, 100),
-        Command::Publish { from: 16, count: 1 }
+        Command::Publish { from: 16, count: 2 }
     );
+    assert_eq!(rt; sending.serve(256, 100), Command::Wake { at: 2_100 });
+    assert_eq!(rt; sending.parts().window, 17);
     // what isn't confirmed in time leaves again
     assert_eq!(rt; sending.serve(256, 2_099), Command::Wake { at: 2_100 });
     assert_eq!(rt;
         sending.serve(256, 2_100),
-        Command::Publish { from: 1, count: 8 }
+        Command::Publish { from: 1, count: 16 }
     );
     sending.reconnected();
     assert_eq!(rt;
         sending.serve(256, 2_200),
-        Command::Publish { from: 1, count: 8 }
+        Command::Publish { from: 1, count: 16 }
     );
     assert!(rt; !sending.listed(5));
     assert!(rt; sending.listed(6));
     assert_eq!(rt;
         sending.serve(256, 2_300),
-        Command::Publish { from: 0, count: 8 }
+        Command::Publish { from: 0, count: 16 }
     );
     sending_laws();
 }
@@ -388,16 +387,16 @@ fn a_shard_has_room_for_so_many(rt: HostRuntime) {
     };
     assert_eq!(rt; flow.room(), 0);
     flow.list = Some(5);
-    assert_eq!(rt; flow.room(), 246);
+    assert_eq!(rt; flow.room(), 2_038);
     flow.moved(4, 7);
     assert_eq!(rt; flow.under_way, 13);
-    let mut sending = Sending::load(20, 4, 9, 4, 5, 0);
+    let mut sending = Sending::load(300, 4, 9, 4, 5, 0);
     assert_eq!(rt; sending.sealing_room(), 0);
     assert_eq!(rt;
         sending.serve(flow.room(), 0),
-        Command::Publish { from: 4, count: 8 }
+        Command::Publish { from: 4, count: 16 }
     );
-    assert_eq!(rt; sending.under_way(), 8);
+    assert_eq!(rt; sending.under_way(), 16);
     shard_laws();
 }
 
