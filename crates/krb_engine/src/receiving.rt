@@ -85,7 +85,7 @@ impl Receiving {
         ensures outcome { result ≡ outcome self.old.drafted seen }
         ensures state { self.new ≡ took self.old frame.now seen }
     {
-        let outcome = outcome(&self.drafted, seen);
+        let outcome = taken_for(&self.drafted, seen);
         self.is_open = true;
         self.owed = owes(self.owed, outcome);
         if outcome == Outcome::Accepted {
@@ -127,7 +127,7 @@ impl Receiving {
 }
 
 /// What a frame is taken for: what doesn't open is nobody's.
-fn outcome(row: &Row, seen: Seen) -> Outcome
+fn taken_for(row: &Row, seen: Seen) -> Outcome
     ensures { result ≡ outcome row.now seen }
 {
     if row.closed {
