@@ -8,7 +8,9 @@ ghost use Rattle.krb_carrier_structs.specs.Numbers.{outcome_number};
 ghost use Rattle.krb_carrier_structs.specs.Receiving.{CanTakeFrame, IsReceiving, TellsReceiving, told_receiving, told_row, told_seen};
 ghost use Rattle.krb_engine.specs.Receiving.{dropped, has_row, outcome as taken_for, stored, took};
 
-use krb_carrier_structs::{KrbReceipt, KrbReceiving, KrbRow, KrbSeen, number_of_outcome, receipt_told};
+use krb_carrier_structs::{
+    KrbReceipt, KrbReceiving, KrbRow, KrbSeen, number_of_outcome, receipt_told,
+};
 use krb_engine::Receiving;
 use krb_structs::Fault;
 

@@ -2,9 +2,9 @@
 
 use krb_copies::Receipt;
 use krb_engine::{
-    Asks, Command, Ended, Flow, Head, Heard, Judged, Opening, Read, Reading, Receiving, Row, Seen,
-    Sending, SendingParts, Spot, Stands, judge, receiving_laws, sending_laws, shard_laws,
-    stream_laws,
+    Asks, Command, Ended, Flow, Head, Heard, Judged, Opening, Outcome, Read, Reading, Receiving,
+    Row, Seen, Sending, SendingParts, Spot, Stands, judge, receiving_laws, sending_laws,
+    shard_laws, stream_laws,
 };
 use krb_queue::{Pause, Queue, pause_laws, queue_laws};
 use std::test::Fail;
