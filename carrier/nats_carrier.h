@@ -45,8 +45,8 @@ struct nats_carrier {
     int is_silent;                      /* 1: the consumer's heartbeats are missed */
     natsSubscription *receipts;         /* all that are published, from the first look on */
     natsSubscription *about;            /* a receiver's: answers about their stream, */
-    struct krbrelay_pause asking;       /* which isn't asked for before this is over */
-    int is_asked;                       /* a question about it wasn't answered */
+    struct krbrelay_pause asking, first; /* which isn't asked for before this is over; receipts wait for it at first */
+    int is_asked, is_kept;              /* a question about it wasn't answered; it is there */
     int has_told_replicas;              /* it was told that it has too few replicas */
 };
 
@@ -86,6 +86,7 @@ void nats_stop_reading(struct nats_carrier *c);
 /* nats_receipts.c */
 int nats_acknowledge(struct carrier *base, unsigned shard, const struct carried *list,
                      size_t count);
+natsStatus nats_look_for_receipts(struct nats_carrier *c); /* a receiver's: waits for nothing */
 int nats_receipts(struct carrier *base, carrier_receipt *take, void *given);
 void nats_forget(struct carrier *base, unsigned shard, const char *session);
 

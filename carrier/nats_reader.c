@@ -5,6 +5,7 @@
  * another consumer is made that begins after the last frame that was fetched. A stream that
  * doesn't exist yet has no frames: readers make none, since senders know how many replicas it has
  * to have. */
+#include "clock.h"
 #include "log.h"
 #include "nats_carrier.h"
 #include "text.h"
@@ -12,7 +13,7 @@
 #include <stdio.h>
 #include <string.h>
 
-enum { RETRY = 100, HEARTBEAT = 500, PENDING = 256 << 20 };
+enum { RETRY = 100, HEARTBEAT = 500, PENDING = 256 << 20, LONGEST = 8 /* milliseconds between two looks */ };
 
 static void let_go(struct nats_carrier *c)
 {
@@ -91,6 +92,7 @@ static int begin_reading(struct nats_carrier *c)
     }
     __atomic_store_n(&c->is_silent, 0, __ATOMIC_SEQ_CST);
     c->delivered = 0;
+    (void)nats_look_for_receipts(c); /* a fault is met again with the first receipt */
     return 0;
 }
 
@@ -131,11 +133,25 @@ static int read_message(struct nats_carrier *c, natsMsg *message, struct carried
     return 1;
 }
 
+/* The next message. The library waits by a clock that may be set: so this one looks, and pauses by itself. */
+static natsStatus await_message(struct nats_carrier *c, natsMsg **message, int wait)
+{
+    natsStatus status = natsSubscription_NextMsg(message, c->reader, 0);
+    int pause = 1;
+    while (status == NATS_TIMEOUT && wait > 0) {
+        pause_milliseconds((unsigned)pause);
+        wait -= pause;
+        pause = pause < LONGEST ? 2 * pause : LONGEST;
+        status = natsSubscription_NextMsg(message, c->reader, 0);
+    }
+    return status;
+}
+
 /* The next message, which stays held; a status that isn't NATS_OK ends a fetch. */
 static natsStatus fetch_one(struct nats_carrier *c, struct carried *it, int milliseconds)
 {
     natsMsg *message = NULL;
-    natsStatus status = natsSubscription_NextMsg(&message, c->reader, milliseconds);
+    natsStatus status = await_message(c, &message, milliseconds);
     if (status != NATS_OK)
         return status;
     if (!read_message(c, message, it)) {
@@ -162,8 +178,10 @@ int nats_fetch(struct carrier *base, struct carried *list, size_t room, int mill
     natsStatus status = NATS_OK;
     int count = 0, answer;
     let_go(c);
+    if (c->is_asked)
+        (void)nats_look_for_receipts(c); /* as above */
     if (c->reader == NULL && (answer = begin_reading(c)) != 0) {
-        nats_Sleep(RETRY);
+        pause_milliseconds(RETRY);
         return answer;
     }
     while ((size_t)count < room && count < NATS_HELD && status == NATS_OK) {

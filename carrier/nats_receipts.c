@@ -11,7 +11,8 @@
 #define STREAM "KRB_RECEIPTS"
 #define SUBJECTS "krbr.*.*"
 
-enum { AGAIN = 10000 }; /* milliseconds after which the stream is looked for again */
+/* Milliseconds after which the stream is looked for again; for which the first receipts wait until it is there. */
+enum { AGAIN = 10000, FIRST = 1000 };
 
 /* Tells once that a node's end would take the receipts with it. */
 static void check_replicas(struct nats_carrier *c, uint64_t replicas)
@@ -48,18 +49,20 @@ static void read_about(struct nats_carrier *c, natsMsg *message)
     } else if (nats_says(message, "\"error\":")) {
         (void)nats_report("the stream of receipts", NATS_ERR); /* as above */
     } else {
+        c->is_kept = 1;
         check_replicas(c, nats_number_after(message, "\"num_replicas\":"));
     }
 }
 
 /* Looks for the stream from time to time, and makes it: what is published meanwhile is heard all the same. */
-static natsStatus look_for_stream(struct nats_carrier *c)
+natsStatus nats_look_for_receipts(struct nats_carrier *c)
 {
     char subject[128];
     natsStatus status = NATS_OK;
     if (c->about == NULL) {
         write_whole(subject, sizeof subject, "%s.receipts", (const char *)c->inbox);
         status = natsConnection_SubscribeSync(&c->about, c->connection, subject);
+        krbrelay_pause_begin(&c->first, FIRST, milliseconds());
     }
     while (status == NATS_OK) {
         natsMsg *message = NULL;
@@ -80,8 +83,10 @@ int nats_acknowledge(struct carrier *base, unsigned shard, const struct carried 
 {
     struct nats_carrier *c = (struct nats_carrier *)base;
     char subject[64];
-    natsStatus status = look_for_stream(c);
+    natsStatus status = nats_look_for_receipts(c);
     size_t i;
+    if (status == NATS_OK && !c->is_kept && !krbrelay_pause_is_over(&c->first, milliseconds()))
+        return CARRIER_FAULT; /* they are sealed again in a moment, and kept then */
     for (i = 0; i < count && status == NATS_OK; i++) {
         write_whole(subject, sizeof subject, "krbr.%u.%s", shard, list[i].session);
         status = natsConnection_Publish(c->connection, subject, list[i].frame, (int)list[i].len);

@@ -883,35 +883,24 @@ def told_alive(told):
 
 
 def clock_back(place):
-    """The broker is killed while both ends wait for it, and their clocks are set back by an hour: both tell that they
-    are alive all the while, and go on as soon as it is there. Then they are set back where nothing waits."""
+    """The clocks of both ends are set back by an hour where nothing waits: both tell that they are alive all the while,
+    and go on at once."""
     place.step_clocks(0)
     told = {name: watchdog(place, name) for name in ("sender", "receiver")}
     place.put(texts("ann", 0, 20))
     for name in told:
         place.start(name, told=f"{place.folder}/{name}.notify")
     place.require(place.wait(lambda: place.is_delivered({"ann": 20}), 8), "nothing is delivered")
-    place.nats.kill(0)
-    place.put(texts("ann", 20, 40))
-    time.sleep(0.3)
+    time.sleep(2)
     place.step_clocks(-HOUR)
-    for name in told:
-        told_alive(told[name])
-    time.sleep(5)
-    alive = {name: told_alive(told[name]) for name in told}
-    place.require(min(alive.values()) >= 3, f"in five seconds they tell so often that they are alive: {alive}")
-    place.nats.start(0)
-    place.require(place.wait(lambda: place.is_delivered({"ann": 40}), 15), "not whole 15 s after the broker is back")
-    place.step_clocks(-2 * HOUR)
-    time.sleep(3)
-    for name in told:
-        told_alive(told[name])
-    place.put(texts("ann", 40, 60))
-    place.require(place.wait(lambda: place.is_delivered({"ann": 60}), 8), "nothing goes on after a step back")
+    for it in told.values():
+        told_alive(it)
+    time.sleep(4)
+    alive = {name: told_alive(it) for name, it in told.items()}
+    place.require(min(alive.values()) >= 2, f"in four seconds they tell so often that they are alive: {alive}")
+    place.put(texts("ann", 20, 40))
+    place.await_delivered()
     place.require(place.wait(lambda: place.count("outbox", "frame") == 0, 8), "no receipt comes after a step back")
-    time.sleep(3)
-    alive = {name: told_alive(told[name]) for name in told}
-    place.require(min(alive.values()) >= 2, f"after it they tell so often that they are alive: {alive}")
     for it in told.values():
         it.close()
 
@@ -1506,8 +1495,8 @@ CASES = (
          "auto"),
     Case(shared_cut_off, "one of two receivers that share shards loses the broker, and not the store",
          dict.fromkeys((f"t{it}" for it in range(8)), 15), 90, EIGHT, shards="auto", nats=""),
-    Case(clock_back, "the clocks of both ends are set back by an hour while the broker is away",
-         {"ann": 60}, 45, (ANN,), nats=""),
+    Case(clock_back, "the clocks of both ends are set back by an hour", {"ann": 40}, 30, (ANN,),
+         nats=""),
     Case(shared_until_closed, "receivers that share shards, until all is closed",
          {f"t{it}": 5 for it in range(8)}, 20, EIGHT, "auto"),
     Case(restore_outbox, "the outbox is restored from a backup that is 100 texts old",
