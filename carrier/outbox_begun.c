@@ -91,7 +91,7 @@ int outbox_forget_ended(struct outbox *o, const struct begun *it, struct ended *
 {
     struct statement *select = &o->statements[SELECT_ENDED];
     size_t i = ended->count;
-    int row = 0;
+    int row = 0, answer = 0;
     bind_text(select, 1, it->opened.stream);
     bind_number(select, 2, (sqlite3_int64)it->turn);
     bind_number(select, 3, (sqlite3_int64)(ENDED - ended->count));
@@ -99,9 +99,9 @@ int outbox_forget_ended(struct outbox *o, const struct begun *it, struct ended *
            && copy_column(select->at, 0, ended->at[ended->count].name))
         ended->at[ended->count++].shard = (unsigned)sqlite3_column_int(select->at, 1) % CARRIER_SHARDS;
     end_rows(select);
-    for (; i < ended->count && row == 0; i++)
-        row = forget(o, ended->at[i].name);
-    return row;
+    for (; i < ended->count && answer == 0; i++)
+        answer = forget(o, ended->at[i].name);
+    return row >= 0 ? answer : -1;
 }
 
 int outbox_add_begun(struct outbox *o, struct kerberos *kerberos, const struct begun *it)

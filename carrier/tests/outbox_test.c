@@ -429,8 +429,14 @@ static void test_ended(struct outbox *outbox)
     struct ended ended = { 0 };
     strcpy(sixth.opened.stream, "stream");
     check(sqlite3_exec(outbox->db, five_sessions, NULL, NULL, NULL) == SQLITE_OK, "a stream has five sessions");
-    check(outbox_forget_ended(outbox, &sixth, &ended) == 0 && ended.count == 2 && ended.at[0].shard == 3
-          && strcmp(ended.at[0].name, "of-1") == 0 && strcmp(ended.at[1].name, "of-2") == 0, "two are forgotten");
+    ended.count = ENDED;
+    check(outbox_forget_ended(outbox, &sixth, &ended) == 0 && ended.count == ENDED, "none where the list is full");
+    ended.count = ENDED - 1;
+    check(outbox_forget_ended(outbox, &sixth, &ended) == 0 && ended.count == ENDED
+          && strcmp(ended.at[ENDED - 1].name, "of-1") == 0, "one where it has room for one");
+    ended.count = 1;
+    check(outbox_forget_ended(outbox, &sixth, &ended) == 0 && ended.count == 2 && ended.at[1].shard == 3
+          && strcmp(ended.at[1].name, "of-2") == 0, "and then the next");
     check(number_of(outbox, "SELECT sum(turn) FROM opened") == 3 + 4 + 5
           && number_of(outbox, "SELECT count(*) FROM session WHERE name LIKE 'of-%'") == 3, "and their rows");
     check(outbox_forget_ended(outbox, &sixth, &ended) == 0 && ended.count == 2, "no other one");
