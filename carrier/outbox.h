@@ -161,7 +161,7 @@ int outbox_close_begun(struct outbox *outbox, const struct begun *it);
 
 /* The same: forgets sessions of its stream that ended before the one before it, and of which nothing waits for a
  * receipt, nor of the one after them, whose opening names them. Adds them to the list, as long as it has room. */
-enum { ENDED = 64 };
+enum { ENDED = 4096 }; /* more than begin in one transaction */
 struct ended { size_t count; struct { char name[CARRIER_NAME]; unsigned shard; } at[ENDED]; };
 int outbox_forget_ended(struct outbox *outbox, const struct begun *it, struct ended *ended);
 

@@ -426,7 +426,7 @@ static const char five_sessions[] =
 static void test_ended(struct outbox *outbox)
 {
     struct begun sixth = { .turn = 6 };
-    struct ended ended = { 0 };
+    static struct ended ended;
     strcpy(sixth.opened.stream, "stream");
     check(sqlite3_exec(outbox->db, five_sessions, NULL, NULL, NULL) == SQLITE_OK, "a stream has five sessions");
     ended.count = ENDED;

@@ -659,7 +659,7 @@ def sessions_end(place):
     place.require(opened >= 20 * len(streams), f"{opened} sessions")
     for of, table in (("outbox", "opened"), ("outbox", "session"), ("carrier", "receipt")):
         rows = place.count(of, table)
-        place.require(rows <= 4 * len(streams), f"{of}: {rows} rows of {table} are left of {opened} sessions")
+        place.require(rows <= 8 * len(streams), f"{of}: {rows} rows of {table} are left of {opened} sessions")
 
 
 def opening_anew(place):
