@@ -12,6 +12,7 @@ from lib.plants.copies import Copy
 Told = tuple[bool, str]
 WRAPS = ["-Wl,--wrap=malloc", "-Wl,--wrap=realloc", "-Wl,--wrap=free"]
 LINKED = {"calls": ["-Wl,--wrap=clock_gettime", "-Wl,--wrap=getrandom"], "residue": WRAPS[2:]}
+OF_A_TEST = 60      # seconds, as `rt ci` gives each test of a crate
 OF_32_BITS = ["-m32", "-ffreestanding", "-nostdlib", "-static", "-fno-pic", "-no-pie", "-fno-stack-protector"]
 
 
@@ -144,8 +145,15 @@ def tool(copy: Copy, what: str) -> Told:
 
 
 def crate(copy: Copy, name: str) -> Told:
-    """The tests of a crate, without proofs."""
-    return copy.run(["rt", "try", "--test", "--seconds", "300"], cwd=f"{copy.top}/crates/{name}")
+    """The tests of a crate, without proofs. Each has the time that it has in the gate."""
+    program = copy.tests(name)
+    listed, said = copy.run([program, "--list"], most=1_000_000)
+    names = [line.removesuffix(": test") for line in said.splitlines() if line.endswith(": test")]
+    for test in names:
+        passed, said = copy.run([program, test], seconds=OF_A_TEST)
+        if not passed:
+            return False, f"FAILED {test}: {said}"
+    return listed and bool(names), said
 
 
 def sweep(copy: Copy, name: str) -> Told:

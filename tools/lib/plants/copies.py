@@ -1,12 +1,14 @@
 """A copy of the repository in which a fault may be planted, and what is built of it without proofs."""
+import contextlib
 import functools
 import os
 import shutil
+import signal
 import subprocess
 import tempfile
 import threading
 
-from lib.build import building, c_tools, without_proofs
+from lib.build import building, c_tools, family, without_proofs
 from lib.plants import planted, wrapped
 
 LIBRARY = without_proofs.LIBRARY
@@ -72,15 +74,19 @@ class Copy:
     def place(self, name: str) -> str:
         return os.path.join(self.folder, name)
 
-    def run(self, words: list, most: int = 3000, **how) -> tuple[bool, str]:
-        """Whether a command ends with 0, and the end of what it said."""
+    def run(self, words: list, most: int = 3000, seconds: int = SECONDS, **how) -> tuple[bool, str]:
+        """Whether a command ends with 0 in so many seconds, and the end of what it said."""
         how.setdefault("cwd", self.folder)
-        try:
-            done = subprocess.run(words, stdin=subprocess.DEVNULL, stdout=subprocess.PIPE, check=False,
-                                  stderr=subprocess.STDOUT, timeout=SECONDS, **how)
-        except subprocess.TimeoutExpired:
-            return False, f"not at its end after {SECONDS} seconds"
-        return done.returncode == 0, done.stdout.decode(errors="replace")[-most:]
+        with subprocess.Popen(words, stdin=subprocess.DEVNULL, stdout=subprocess.PIPE,
+                              stderr=subprocess.STDOUT, **how) as ran:
+            try:
+                said, _ = ran.communicate(timeout=seconds)
+            except subprocess.TimeoutExpired:
+                for number in (*family.below(ran.pid), ran.pid):
+                    with contextlib.suppress(ProcessLookupError):
+                        os.kill(number, signal.SIGKILL)
+                return False, f"not at its end after {seconds} seconds"
+        return ran.returncode == 0, said.decode(errors="replace")[-most:]
 
     def is_of_proved_code(self) -> bool:
         """Whether the library has the proved code, if with a function around a call of it."""
