@@ -6,6 +6,7 @@ tools/test_reference.
 """
 import dataclasses
 import os
+import re
 import subprocess
 import sys
 
@@ -333,6 +334,28 @@ def test_a_plant_of_signatures_has_to_be_named(monkeypatch, found, before, expec
 def test_a_comparison_of_signatures_that_breaks_off_has_seen_nothing(monkeypatch):
     plant = signature_plants.Plant("planted", "no such file", "", "a", "b", "FAILED")
     assert signature_plants.missing(Given({}, ""), plant, []).startswith("FileNotFoundError")
+
+
+# ---- the shares of a run
+
+def collected(command):
+    """The tests that a command of pytest would run."""
+    done = subprocess.run([*command.split(), "--collect-only", "-q"], cwd=building.TOP, check=True,
+                          stdin=subprocess.DEVNULL, stdout=subprocess.PIPE, text=True)
+    return sorted(line for line in done.stdout.splitlines() if "::" in line)
+
+
+def test_the_shares_of_quick_are_all_that_is_there():
+    share = re.compile(r"--share \S+ ")
+    commands = [part.command for part in parts.QUICK if share.search(part.command)]
+    [whole] = {share.sub("", it) for it in commands}
+    all_tests = collected(whole)
+    assert len(all_tests) > len(commands) > 1 and sorted(sum(map(collected, commands), [])) == all_tests
+
+
+@pytest.mark.parametrize("words", ["0/2", "3/2", "1", "1/0", "a/b", "1/2/3"])
+def test_what_is_no_share_is_refused(words):
+    assert status("pytest", "--share", words, "--collect-only", f"{building.TOP}/tests/test_tables.py") == 4
 
 
 # ---- the tools with a control of their own

@@ -10,6 +10,7 @@ from lib import scripts
 from lib.build import building, c_tools, unproved
 
 TO_ANSWER = 60         # seconds for a tool to say whether it is there
+SHARES = 4             # runs in which --quick has the cases of the program: one of all would end long after the others
 
 PROGRAM = "a program that is built from these sources"
 UNPROVED = "one that is built from them without its proofs"
@@ -176,9 +177,16 @@ MORE = [
     Part("carrier/test --all", 60, (PROGRAM, "rt", COMPILER, "clang", MAKE, SQLITE, SERVERS,
                                        MIT, REALM)),
 ]
-# Those of --quick: the first builds the program that the others run, without its proofs.
+# Those of --quick: the first builds the program that some of the others run, without its proofs.
 BUILD_UNPROVED = Part("tools/krbrelay --unproved", 10, ("rt",))
+
+
+def over_unproved(command, minutes, *needs):
+    return Part(command, minutes, (UNPROVED, *needs), BUILD_UNPROVED.command)
+
+
 QUICK = [
+    BUILD_UNPROVED,
     Part("tools/quotes", 1),
     Part("pytest tests/test_tables.py", 1, (PYTEST,)),
     Part("tools/tables --check", 1),
@@ -186,11 +194,12 @@ QUICK = [
     Part("pytest carrier/tests/test_simulation.py", 1, (PYTEST,)),
     Part("tests/job_check", 1, (CRYPTOGRAPHY,)),
     Part("conformance/test --quick", 3, (CRYPTOGRAPHY,)),
-    Part("tools/picture --quick", 1, (UNPROVED,)),
-    Part("tests/redelivery --quick", 4, (UNPROVED, CRYPTOGRAPHY)),
-    Part("tests/install --quick", 1, (UNPROVED,)),
-    Part("tests/fuzz --quick 300", 5, (UNPROVED, CRYPTOGRAPHY)),
-    Part("pytest --quick tests/test_program.py", 6, (UNPROVED, COMPILER, PYTEST)),
+    over_unproved("tools/picture --quick", 1),
+    over_unproved("tests/redelivery --quick", 4, CRYPTOGRAPHY),
+    over_unproved("tests/install --quick", 1),
+    over_unproved("tests/fuzz --quick 300", 5, CRYPTOGRAPHY),
+    *(over_unproved(f"pytest --quick --share {it}/{SHARES} tests/test_program.py", 6, COMPILER, PYTEST)
+      for it in range(1, SHARES + 1)),
 ]
 
 
