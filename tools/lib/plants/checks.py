@@ -79,7 +79,8 @@ def signatures(copy: Copy) -> Told:
 def c_test(copy: Copy, name: str) -> Told:
     if name in OF_C:
         return OF_C[name](copy)
-    words = {"dead_stack": secrets_of(copy), "fuzz": ["20000"], "sequences": ["200000"]}
+    words = {"dead_stack": secrets_of(copy), "fuzz": ["20000"], "sequences": ["200000"],
+             "processor": ["unsupported", "told"]}
     return c_program(copy, name, *words.get(name, ()))
 
 
