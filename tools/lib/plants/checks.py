@@ -12,6 +12,7 @@ from lib.plants.copies import Copy
 Told = tuple[bool, str]
 WRAPS = ["-Wl,--wrap=malloc", "-Wl,--wrap=realloc", "-Wl,--wrap=free"]
 LINKED = {"calls": ["-Wl,--wrap=clock_gettime", "-Wl,--wrap=getrandom"], "residue": WRAPS[2:]}
+MOST_TOLD = 400     # wrong cases, after which the matrix ends
 OF_A_TEST = 60      # seconds, as `rt ci` gives each test of a crate
 OF_32_BITS = ["-m32", "-ffreestanding", "-nostdlib", "-static", "-fno-pic", "-no-pie", "-fno-stack-protector"]
 
@@ -30,7 +31,7 @@ def secrets_of(copy: Copy) -> list[str]:
 def matrix(copy: Copy) -> Told:
     folder = f"{copy.top}/c/tests/matrix"
     program = copy.compiled("matrix", sorted(f"{folder}/{it}" for it in os.listdir(folder)
-                                             if it.endswith(".c")), *WRAPS, "-DMOST_TOLD=1")
+                                             if it.endswith(".c")), *WRAPS, f"-DMOST_TOLD={MOST_TOLD}")
     made, said = copy.run(["python3", f"{copy.top}/c/tests/inside.py", "inside.bin"])
     if not made:
         return made, said
@@ -123,6 +124,7 @@ OF_PACKAGE = {"rust": ("tests/frames.txt", ["cargo", "test", "--offline", "--fea
 
 def package(copy: Copy, room: str) -> Told:
     frames, words = OF_PACKAGE[room]
+    copy.commit()
     place = f"{copy.top}/{room}/{frames}"
     os.makedirs(os.path.dirname(place), exist_ok=True)
     with open(place, "w", encoding="utf-8") as file:
@@ -138,6 +140,7 @@ OF_PLANTS = "tests/test_tools.py::test_a_plant_applies_and_names_checks"
 
 
 def tool(copy: Copy, what: str) -> Told:
+    copy.commit()
     return copy.run({"self": ["pytest", "-q", "-x", "--deselect", OF_PLANTS, "tests/test_tools.py"],
                      "tables": ["pytest", "-q", "-x", "tests/test_tables.py"],
                      "verdicts": ["pytest", "-q", "-x", "-k", "verdict", "tests/test_release.py"],
@@ -179,6 +182,7 @@ def prover(copy: Copy, name: str, function: str) -> Told:
     """Whether the prover takes a crate, of which this function is changed. What it has kept of the crates
     below is not proved again. The crate is laid out before, since `rt ci` refuses another layout too: it
     is a goal of the function at which it has to refuse."""
+    copy.commit()
     copy.run(["rt", "fmt"], cwd=f"{copy.top}/crates/{name}")
     proved, said = copy.run(["rt", "ci", name], cwd=copy.top, most=1_000_000)
     goals = goals_of(said, name, function)
@@ -197,8 +201,8 @@ def run(copy: Copy, check: str) -> Told:
     return CHECKS[kind](copy, *words)
 
 
-def last_words(said: str) -> str:
-    """The first line that tells a fault, or the last line."""
+def last_words(said: str, says: str = "") -> str:
+    """The first line that tells a fault, and what it has to, or the last line."""
     lines = [it.strip() for it in said.splitlines() if it.strip() and not it.startswith("time=")]
-    told = [it for it in lines if re.search(r"not so|FAILED|wrong|error|differs", it)]
+    told = [it for it in lines if re.search(says or r"not so|FAILED|wrong|error|differs", it)]
     return (told or lines or [""])[0][:150]
