@@ -404,6 +404,16 @@ def test_a_refusal_names_a_goal_of_the_function(said, goals):
     assert checks.goals_of(f"== krb_carry\n{said}\n1 passed", "krb_carry", "Place::take") == goals
 
 
+@pytest.mark.parametrize("passed, said, is_seen", [
+    (False, "not so: this fault", True), (False, "not so: another one", False), (True, "this fault", False)])
+def test_a_plant_is_seen_by_what_tells_it(monkeypatch, passed, said, is_seen):
+    tool = scripts.load("plants")
+    monkeypatch.setattr(tool, "Copy", lambda *_: None)
+    monkeypatch.setattr(tool.checks, "run", lambda *_: (passed, said))
+    plant = planted.Plant("planted", "none", ("c matrix",), (), says="this fault")
+    assert tool.tried(plant).is_right == is_seen
+
+
 def test_a_plant_around_no_call_is_told():
     with pytest.raises(wrapped.NoCall):
         wrapped.source(building.text_of("c/krbrelay.h"), "no_such_call", "", "")

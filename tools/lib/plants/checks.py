@@ -35,7 +35,7 @@ def matrix(copy: Copy) -> Told:
     made, said = copy.run(["python3", f"{copy.top}/c/tests/inside.py", "inside.bin"])
     if not made:
         return made, said
-    return copy.run([program, f"{copy.top}/c/krbrelay.h", "inside.bin", *secrets_of(copy), "-"])
+    return copy.run([program, f"{copy.top}/c/krbrelay.h", "inside.bin", *secrets_of(copy), "-"], most=1_000_000)
 
 
 def inline(copy: Copy) -> Told:
