@@ -476,6 +476,23 @@ def of_fields():
         yield f"tables/fields.toml, {name}", row["name"], name.lower()
 
 
+def of_keys():
+    """The help says of a key what tables/job_keys.toml does, where tools/tables doesn't write it; and the bounds of
+    a key are those that it says."""
+    table, limits = (tomllib.loads(building.text_of(f"tables/{it}.toml")) for it in ("job_keys", "limits"))
+    told = " ".join(building.text_of(HELP).replace(r'\"', '"').split())
+    keys = table["job"] | table["sender"]
+    for name, row in keys.items():
+        yield f"the help has {name}", " ".join(f"{name} = {row['example']} {row['says']}".split()) in told, True
+        bounds = [limits["job"].get(row[it], {"number": row[it]})["number"] for it in ("least", "most") if it in row]
+        numbers = [int(it.replace(",", "")) for it in re.findall(r"\d[\d,]*", row["says"])]
+        yield f"the help says the bounds of {name}", set(bounds) <= {*numbers}, True
+        if row["kind"] in ("whole", "flag"):
+            yield f"the help says the default of {name}", f"by default {row.get('default')}" in row["says"], "default" in row
+    without = [name for name, row in keys.items() if "open" not in row.get("commands", ["open"])]
+    yield f"{HELP}, open", f"and without {', '.join(without[:-1])} and {without[-1]}" in told, True
+
+
 REFUSALS_OF_MESSAGES = "refusals"
 # What a page says in words of an answer that another call on it looks for elsewhere.
 IN_WORDS = {("peer_new", "EXHAUSTED"), ("sealer_new", "MEMORY")}
@@ -603,6 +620,11 @@ def test_order(found, wanted):
 
 @compared(of_fields)
 def test_fields(found, wanted):
+    assert found == wanted
+
+
+@compared(of_keys)
+def test_keys_of_a_job(found, wanted):
     assert found == wanted
 
 

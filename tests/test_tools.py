@@ -239,6 +239,13 @@ def test_a_written_part_that_differs_is_told(of, path, lines, name, monkeypatch,
     assert f"{path}: its {name or 'lines'} aren't those of {of}.toml\n" in capsys.readouterr().out
 
 
+def test_a_new_key_of_a_job_is_written(monkeypatch):
+    flag = {"kind": "flag", "default": "false", "example": "false", "says": "planted; by default false"}
+    monkeypatch.setitem(TABLES.KEYS["sender"], "scratch", flag)
+    for path, lines, name in TABLES.TABLES["job_keys"]:
+        assert "scratch" in TABLES.with_part(building.text_of(path), "job_keys", name, lines()).lower(), path
+
+
 QUOTES = scripts.load("quotes")
 QUOTED = "c/examples/two_ends.c"
 
