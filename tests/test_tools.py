@@ -54,6 +54,21 @@ def test_a_verdict_of_another_level_is_none(said, is_proved):
     assert assembly.is_proved_for("x86-64-v3", f"axioms none\n{said}\n") == is_proved
 
 
+# ---- what tools are called with
+
+def said_by(tool, *words):
+    return subprocess.run([f"{building.TOP}/{scripts.path_of(tool)}", *words], check=False, stdin=subprocess.DEVNULL,
+                          capture_output=True, text=True, timeout=60)
+
+
+# The words of tools/krbrelay are those of the program.
+@pytest.mark.parametrize("tool", [it for it in scripts.names() if it != "krbrelay"])
+def test_a_tool_says_what_it_is_called_with(tool):
+    told, wrong = said_by(tool, "--help"), said_by(tool, "--planted")
+    assert (told.returncode, told.stdout.strip(), told.stderr) == (0, scripts.head_of(tool).strip(), "")
+    assert (wrong.returncode, wrong.stdout, wrong.stderr.count("\n")) == (2, "", 1)
+
+
 # ---- counts and statuses
 
 @pytest.mark.parametrize("passed, failed, needs_one, ended", [
