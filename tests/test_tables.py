@@ -493,6 +493,21 @@ def of_keys():
     yield f"{HELP}, open", f"and without {', '.join(without[:-1])} and {without[-1]}" in told, True
 
 
+# What a file begins with that says what it is, by its ending. A file of C leaves it to the header of its name.
+BEGINS = {"c": r"/\*", "h": r"/\*|//", "rs": "//!", "go": r"//(?!go:)|//go:build .*\n\npackage \w+\n\n//", "rattle": "//!",
+          "py": r'(?:#!.*\n)?"""'}
+UNSAID = re.compile(r"/out/|/target/|/__init__\.py$|^carrier/shard_load\.c")
+
+
+def of_first_lines():
+    """Each source says at its head what it is. Those of crates aren't asked: a line there asks for proofs anew."""
+    for ending, begin in BEGINS.items():
+        for path in sorted(glob.glob(os.path.join(building.TOP, "**", f"*.{ending}"), recursive=True)):
+            name = os.path.relpath(path, building.TOP)
+            if not UNSAID.search(name) and not (ending == "c" and os.path.exists(path[:-1] + "h")):
+                yield name, bool(re.match(begin, building.text_of(name))), True
+
+
 REFUSALS_OF_MESSAGES = "refusals"
 # What a page says in words of an answer that another call on it looks for elsewhere.
 IN_WORDS = {("peer_new", "EXHAUSTED"), ("sealer_new", "MEMORY")}
@@ -620,6 +635,11 @@ def test_order(found, wanted):
 
 @compared(of_fields)
 def test_fields(found, wanted):
+    assert found == wanted
+
+
+@compared(of_first_lines)
+def test_first_lines(found, wanted):
     assert found == wanted
 
 
