@@ -86,7 +86,7 @@ WALKS = "CONTRIBUTING.md"
 SOURCES = ("tables/*", "crates/**/*", "python/**/*", "tools/**/*", "docs/*.md", "docs/*.1",
            "c/**/*", "tests/**/*", "conformance/**/*", "kerberos/**/*", "carrier/**/*",
            "examples/**/*", "rust/src/*", "go/*")
-OF_TESTS = re.compile(r"/out/|/must-fail|mutants\.toml|_tests/|(python|carrier|kerberos|rust)/tests/|^c/tests/(?!answers\.c)|/test_|^tests/(?!oracle/|job_check)"
+OF_TESTS = re.compile(r"/out/|/must-fail|mutants\.toml|_tests/|(python|carrier|kerberos|rust)/tests/|^c/tests/(?!answers\.c)|/test_|^tests/(?!oracle/)"
                       r"|__pycache__|^go/\w+_test\.go|^go/testdata")
 # Running out of memory is no answer of the independent opener, and an exception of its own in
 # Python.

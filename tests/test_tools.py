@@ -1,8 +1,7 @@
 """Each tool of the gate reports a fault that is planted for it: what a tool never reports, it doesn't test.
 
 Those that have a control of their own in each run are named in OWN_CONTROLS. The tools of tools/ have
-theirs in tools/test_building, tools/test_parts, tools/test_picture, tools/test_bench and
-tools/test_reference.
+theirs in test_building, test_parts, test_picture and test_reference.
 """
 import dataclasses
 import os
@@ -52,21 +51,6 @@ def status(*words, **how):
     ("logic=proved functions=77 cpu=x86-64-v2 sum=1\ncpu=x86-64-v3", False)])
 def test_a_verdict_of_another_level_is_none(said, is_proved):
     assert assembly.is_proved_for("x86-64-v3", f"axioms none\n{said}\n") == is_proved
-
-
-# ---- what tools are called with
-
-def said_by(tool, *words):
-    return subprocess.run([f"{building.TOP}/{scripts.path_of(tool)}", *words], check=False, stdin=subprocess.DEVNULL,
-                          capture_output=True, text=True, timeout=60)
-
-
-# The words of tools/krbrelay are those of the program.
-@pytest.mark.parametrize("tool", [it for it in scripts.names() if it != "krbrelay"])
-def test_a_tool_says_what_it_is_called_with(tool):
-    told, wrong = said_by(tool, "--help"), said_by(tool, "--planted")
-    assert (told.returncode, told.stdout.strip(), told.stderr) == (0, scripts.head_of(tool).strip(), "")
-    assert (wrong.returncode, wrong.stdout, wrong.stderr.count("\n")) == (2, "", 1)
 
 
 # ---- counts and statuses

@@ -144,7 +144,8 @@ def tool(copy: Copy, what: str) -> Told:
     return copy.run({"self": ["pytest", "-q", "-x", "--deselect", OF_PLANTS, "tests/test_tools.py"],
                      "tables": ["pytest", "-q", "-x", "tests/test_tables.py"],
                      "verdicts": ["pytest", "-q", "-x", "-k", "verdict", "tests/test_release.py"],
-                     "test_building": ["tools/test_building"], "test_parts": ["tools/test_parts"],
+                     "test_building": ["pytest", "-q", "-x", "tests/test_building.py"],
+                     "test_parts": ["pytest", "-q", "-x", "tests/test_parts.py"],
                      "conformance": ["conformance/test", "--quick"]}[what], cwd=copy.top)
 
 
