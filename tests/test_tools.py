@@ -84,11 +84,31 @@ int main(void) {{ {checks} return check_status("planted"); }}
 
 
 @pytest.mark.parametrize("fact, fails", [("1", False), ("0", True)])
-def test_a_unit_of_the_carrier_with_a_failed_check_ends_with_1(tmp_path, fact, fails):
+def test_a_check_that_has_to_hold_ends_with_1(tmp_path, fact, fails):
     program = compiled(tmp_path, "planted", f"""#include "check.h"
 int main(void) {{ check({fact}, "planted"); return 0; }}
-""", f"-I{building.TOP}/carrier/tests")
+""", f"-I{building.TOP}/c/tests")
     assert status(program) == (1 if fails else 0)
+
+
+@pytest.mark.parametrize("words, ended, last", [
+    ([], 1, "planted: 2 checks held, 1 failed"), (["one"], 0, "planted: 1 checks held, 0 failed"),
+    (["two"], 1, "planted: 0 checks held, 1 failed"), (["one", "three"], 0, "planted: 2 checks held, 0 failed"),
+    (["on"], 2, "planted: there is no such test"), (["ones"], 2, "planted: there is no such test")])
+def test_a_c_test_runs_by_its_name(tmp_path, words, ended, last):
+    program = compiled(tmp_path, "planted", """#include "check.h"
+static void one(int fact) { CHECK(fact); }
+static void two(int fact) { CHECK(fact); }
+static void three(int fact) { CHECK(fact); }
+int main(int count, char **words)
+{
+    check_only(1, count, words);
+    RUN(one(1)); RUN(two(0)); RUN(three(2));
+    return check_status("planted");
+}
+""", f"-I{building.TOP}/c/tests")
+    done = subprocess.run([program, *words], check=False, stdout=subprocess.PIPE, text=True)
+    assert (done.returncode, done.stdout.splitlines()[-1]) == (ended, last)
 
 
 # ---- the object that is compared with the kit's

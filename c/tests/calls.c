@@ -452,23 +452,24 @@ static void empty_handles(void)
     CHECK(krbrelay_receiver_is_empty(&r));
 }
 
-int main(void)
+int main(int count, char **words)
 {
+    check_only(1, count, words);
     for (int i = 0; i < 16; i++)
         keys[0][i] = (uint8_t)i;
     memset(keys[1], 0x11, 32);
     CHECK(krbrelay_is_supported() == 1);
-    clocks();
-    frames_of_another_sealer();
-    frames_of_a_peer();
-    draws_that_go_on();
-    faults_of_the_system();
-    answers_of_sealing();
-    records();
-    confounders_differ();
-    addresses();
-    no_addresses();
-    answers();
-    empty_handles();
+    RUN(clocks());
+    RUN(frames_of_another_sealer());
+    RUN(frames_of_a_peer());
+    RUN(draws_that_go_on());
+    RUN(faults_of_the_system());
+    RUN(answers_of_sealing());
+    RUN(records());
+    RUN(confounders_differ());
+    RUN(addresses());
+    RUN(no_addresses());
+    RUN(answers());
+    RUN(empty_handles());
     return check_status("calls");
 }

@@ -173,12 +173,13 @@ static void all_take_effect(void)
 int main(int argc, char **argv)
 {
     unsigned long sequences = argc > 1 ? strtoul(argv[1], NULL, 10) : 2000;
+    check_only(3, argc, argv);
     state = argc > 2 ? strtoull(argv[2], NULL, 10) : 1;
-    outcomes();
-    arguments();
+    RUN(outcomes());
+    RUN(arguments());
     for (unsigned long i = 0; i < sequences; i++) {
-        history();
-        all_take_effect();
+        RUN(history());
+        RUN(all_take_effect());
     }
     return check_status("place");
 }

@@ -225,18 +225,19 @@ static void forget_features(void) { }
 int main(int argc, char **argv)
 {
     int is_supported = argc > 1 && strcmp(argv[1], "supported") == 0;
+    check_only(3, argc, argv);
     is_refused = argc > 1 && strcmp(argv[1], "refused") == 0;
     for (int i = 0; i < 16; i++)
         key[i] = (uint8_t)i;
     if (argc > 2 && strcmp(argv[2], "told") == 0)
         forget_features();
     CHECK(krbrelay_is_supported() == is_supported);
-    makers(is_supported ? KRBRELAY_OK : KRBRELAY_PROCESSOR);
+    RUN(makers(is_supported ? KRBRELAY_OK : KRBRELAY_PROCESSOR));
     if (is_supported)
-        messages();
+        RUN(messages());
     if (!is_refused) {
-        empty_handles();
-        others();
+        RUN(empty_handles());
+        RUN(others());
     }
     return check_status(is_supported ? "processor, supported" : "processor, unsupported");
 }
