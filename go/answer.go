@@ -1,3 +1,5 @@
+// Why a call did nothing: its number, its name and its class.
+
 package krbrelay
 
 // #include "calls.h"

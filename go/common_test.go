@@ -1,3 +1,5 @@
+// What the tests have in common.
+
 package krbrelay_test
 
 import (

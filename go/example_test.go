@@ -1,3 +1,5 @@
+// The examples of the package's page.
+
 package krbrelay_test
 
 import (

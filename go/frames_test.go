@@ -1,3 +1,5 @@
+// Frames of the independent sealer: what is sealed is the same, and they are taken.
+
 package krbrelay_test
 
 import (

@@ -1,3 +1,5 @@
+// Handles that are freed.
+
 package krbrelay_test
 
 import (

@@ -1,3 +1,5 @@
+// Numbers that came, and the digest of frames that took effect.
+
 package krbrelay
 
 // #include "calls.h"

@@ -1,3 +1,5 @@
+// Opening messages one at a time.
+
 package krbrelay
 
 // #include "calls.h"

@@ -1,3 +1,5 @@
+// An end that sends and receives.
+
 package krbrelay
 
 // #include "calls.h"

@@ -1,3 +1,5 @@
+// Receiving records in order, each once.
+
 package krbrelay
 
 // #include "calls.h"

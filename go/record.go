@@ -1,3 +1,5 @@
+// What a receiver takes.
+
 package krbrelay
 
 import "encoding/binary"

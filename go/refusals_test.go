@@ -1,3 +1,5 @@
+// Each refusal by its name, and changed messages.
+
 package krbrelay_test
 
 import (

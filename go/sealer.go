@@ -1,3 +1,5 @@
+// Sealing messages.
+
 package krbrelay
 
 // #include "calls.h"

@@ -1,3 +1,5 @@
+// Sessions with an end in C.
+
 package krbrelay_test
 
 import (

@@ -1,3 +1,5 @@
+// Modes, addresses, sessions and demands.
+
 package krbrelay
 
 // #include "calls.h"

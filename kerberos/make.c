@@ -1,3 +1,4 @@
+/* krb5_mk_safe and krb5_mk_priv, by krbrelay or by MIT's code. */
 #include "cipher_state.h"
 #include "kept.h"
 #include "message.h"

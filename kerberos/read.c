@@ -1,3 +1,4 @@
+/* krb5_rd_safe and krb5_rd_priv, by krbrelay or by MIT's code. */
 #include "cipher_state.h"
 #include "kept.h"
 #include "message.h"

@@ -13,7 +13,7 @@ import sys
 
 import os
 sys.path.insert(0, os.path.join(os.path.dirname(os.path.realpath(__file__)), "../tools"))
-from lib import usage
+from lib import options
 from oracle.reader import Malformed, message, part
 
 
@@ -31,7 +31,7 @@ def count(reader, inputs):
 
 
 def main():
-    for digits in sys.argv[1:]:
+    for digits in options.Parser(__doc__).takes("digits", nargs="+", metavar="HEX").parse_args().digits:
         data = bytes.fromhex(digits)
         reader = part if data[:1] == b"\x7c" else message
         assert is_spelt(reader, data), digits
@@ -49,7 +49,6 @@ def main():
 
 
 if __name__ == "__main__":
-    usage.answer(__doc__)
     try:
         main()
     except ValueError as fault:

@@ -13,7 +13,7 @@ import os
 import sys
 
 sys.path.insert(0, os.path.join(os.path.dirname(os.path.realpath(__file__)), "../tools"))
-from lib import usage
+from lib import options
 from oracle import fixtures, frames
 
 
@@ -28,19 +28,20 @@ def digest_of_many(key, is_private):
 
 
 def main(words):
-    if not words:
+    parser = options.Parser(__doc__, "--many").takes("--keys", metavar="KEYHEX")
+    asked = parser.parse_args(words)
+    if asked.keys:
+        if len(asked.keys) not in (32, 64):
+            parser.error("KEYHEX is 16 bytes or 32")
+        strings = frames.strings_of(bytes.fromhex(asked.keys))
+        print(",".join(f"{name}={string.hex()}" for name, string in strings.items()))
+    elif not asked.form:
         for name, frame in fixtures.all_frames():
             print(f"{name} ({len(frame)} bytes)\n  {frame.hex()}")
-    elif words == ["--many"]:
+    else:
         for name, key in (("17", fixtures.KEY_128), ("18", fixtures.KEY_256)):
             for mode in ("safe", "priv"):
                 print(f"{mode} {name}: {digest_of_many(key, mode == 'priv')}")
-    elif len(words) == 2 and words[0] == "--keys" and len(words[1]) in (32, 64):
-        strings = frames.strings_of(bytes.fromhex(words[1]))
-        print(",".join(f"{name}={string.hex()}" for name, string in strings.items()))
-    else:
-        sys.exit(__doc__)
 
 
-usage.answer(__doc__)
 main(sys.argv[1:])

@@ -86,7 +86,7 @@ WALKS = "CONTRIBUTING.md"
 SOURCES = ("tables/*", "crates/**/*", "python/**/*", "tools/**/*", "docs/*.md", "docs/*.1",
            "c/**/*", "tests/**/*", "conformance/**/*", "kerberos/**/*", "carrier/**/*",
            "examples/**/*", "rust/src/*", "go/*")
-OF_TESTS = re.compile(r"/out/|/must-fail|mutants\.toml|_tests/|(python|carrier|kerberos|rust)/tests/|^c/tests/(?!answers\.c)|/test_|^tests/(?!oracle/|job_check)"
+OF_TESTS = re.compile(r"/out/|/must-fail|mutants\.toml|_tests/|(python|carrier|kerberos|rust)/tests/|^c/tests/(?!answers\.c)|/test_|^tests/(?!oracle/)"
                       r"|__pycache__|^go/\w+_test\.go|^go/testdata")
 # Running out of memory is no answer of the independent opener, and an exception of its own in
 # Python.
@@ -476,6 +476,38 @@ def of_fields():
         yield f"tables/fields.toml, {name}", row["name"], name.lower()
 
 
+def of_keys():
+    """The help says of a key what tables/job_keys.toml does, where tools/tables doesn't write it; and the bounds of
+    a key are those that it says."""
+    table, limits = (tomllib.loads(building.text_of(f"tables/{it}.toml")) for it in ("job_keys", "limits"))
+    told = " ".join(building.text_of(HELP).replace(r'\"', '"').split())
+    keys = table["job"] | table["sender"]
+    for name, row in keys.items():
+        yield f"the help has {name}", " ".join(f"{name} = {row['example']} {row['says']}".split()) in told, True
+        bounds = [limits["job"].get(row[it], {"number": row[it]})["number"] for it in ("least", "most") if it in row]
+        numbers = [int(it.replace(",", "")) for it in re.findall(r"\d[\d,]*", row["says"])]
+        yield f"the help says the bounds of {name}", set(bounds) <= {*numbers}, True
+        if row["kind"] in ("whole", "flag"):
+            yield f"the help says the default of {name}", f"by default {row.get('default')}" in row["says"], "default" in row
+    without = [name for name, row in keys.items() if "open" not in row.get("commands", ["open"])]
+    yield f"{HELP}, open", f"and without {', '.join(without[:-1])} and {without[-1]}" in told, True
+
+
+# What a file begins with that says what it is, by its ending. A file of C leaves it to the header of its name.
+BEGINS = {"c": r"/\*", "h": r"/\*|//", "rs": "//!", "go": r"//(?!go:)|//go:build .*\n\npackage \w+\n\n//", "rattle": "//!",
+          "py": r'(?:#!.*\n)?"""'}
+UNSAID = re.compile(r"/out/|/target/|/__init__\.py$|^carrier/shard_load\.c")
+
+
+def of_first_lines():
+    """Each source says at its head what it is. Those of crates aren't asked: a line there asks for proofs anew."""
+    for ending, begin in BEGINS.items():
+        for path in sorted(glob.glob(os.path.join(building.TOP, "**", f"*.{ending}"), recursive=True)):
+            name = os.path.relpath(path, building.TOP)
+            if not UNSAID.search(name) and not (ending == "c" and os.path.exists(path[:-1] + "h")):
+                yield name, bool(re.match(begin, building.text_of(name))), True
+
+
 REFUSALS_OF_MESSAGES = "refusals"
 # What a page says in words of an answer that another call on it looks for elsewhere.
 IN_WORDS = {("peer_new", "EXHAUSTED"), ("sealer_new", "MEMORY")}
@@ -603,6 +635,16 @@ def test_order(found, wanted):
 
 @compared(of_fields)
 def test_fields(found, wanted):
+    assert found == wanted
+
+
+@compared(of_first_lines)
+def test_first_lines(found, wanted):
+    assert found == wanted
+
+
+@compared(of_keys)
+def test_keys_of_a_job(found, wanted):
     assert found == wanted
 
 

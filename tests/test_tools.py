@@ -1,11 +1,11 @@
 """Each tool of the gate reports a fault that is planted for it: what a tool never reports, it doesn't test.
 
 Those that have a control of their own in each run are named in OWN_CONTROLS. The tools of tools/ have
-theirs in tools/test_building, tools/test_parts, tools/test_picture, tools/test_bench and
-tools/test_reference.
+theirs in test_building, test_parts, test_picture and test_reference.
 """
 import dataclasses
 import os
+import re
 import subprocess
 import sys
 
@@ -84,11 +84,31 @@ int main(void) {{ {checks} return check_status("planted"); }}
 
 
 @pytest.mark.parametrize("fact, fails", [("1", False), ("0", True)])
-def test_a_unit_of_the_carrier_with_a_failed_check_ends_with_1(tmp_path, fact, fails):
+def test_a_check_that_has_to_hold_ends_with_1(tmp_path, fact, fails):
     program = compiled(tmp_path, "planted", f"""#include "check.h"
 int main(void) {{ check({fact}, "planted"); return 0; }}
-""", f"-I{building.TOP}/carrier/tests")
+""", f"-I{building.TOP}/c/tests")
     assert status(program) == (1 if fails else 0)
+
+
+@pytest.mark.parametrize("words, ended, last", [
+    ([], 1, "planted: 2 checks held, 1 failed"), (["one"], 0, "planted: 1 checks held, 0 failed"),
+    (["two"], 1, "planted: 0 checks held, 1 failed"), (["one", "three"], 0, "planted: 2 checks held, 0 failed"),
+    (["on"], 2, "planted: there is no such test"), (["ones"], 2, "planted: there is no such test")])
+def test_a_c_test_runs_by_its_name(tmp_path, words, ended, last):
+    program = compiled(tmp_path, "planted", """#include "check.h"
+static void one(int fact) { CHECK(fact); }
+static void two(int fact) { CHECK(fact); }
+static void three(int fact) { CHECK(fact); }
+int main(int count, char **words)
+{
+    check_only(1, count, words);
+    RUN(one(1)); RUN(two(0)); RUN(three(2));
+    return check_status("planted");
+}
+""", f"-I{building.TOP}/c/tests")
+    done = subprocess.run([program, *words], check=False, stdout=subprocess.PIPE, text=True)
+    assert (done.returncode, done.stdout.splitlines()[-1]) == (ended, last)
 
 
 # ---- the object that is compared with the kit's
@@ -238,6 +258,13 @@ def test_a_written_part_that_differs_is_told(of, path, lines, name, monkeypatch,
     assert f"{path}: its {name or 'lines'} aren't those of {of}.toml\n" in capsys.readouterr().out
 
 
+def test_a_new_key_of_a_job_is_written(monkeypatch):
+    flag = {"kind": "flag", "default": "false", "example": "false", "says": "planted; by default false"}
+    monkeypatch.setitem(TABLES.KEYS["sender"], "scratch", flag)
+    for path, lines, name in TABLES.TABLES["job_keys"]:
+        assert "scratch" in TABLES.with_part(building.text_of(path), "job_keys", name, lines()).lower(), path
+
+
 QUOTES = scripts.load("quotes")
 QUOTED = "c/examples/two_ends.c"
 
@@ -335,6 +362,28 @@ def test_a_comparison_of_signatures_that_breaks_off_has_seen_nothing(monkeypatch
     assert signature_plants.missing(Given({}, ""), plant, []).startswith("FileNotFoundError")
 
 
+# ---- the shares of a run
+
+def collected(command):
+    """The tests that a command of pytest would run."""
+    done = subprocess.run([*command.split(), "--collect-only", "-q"], cwd=building.TOP, check=True,
+                          stdin=subprocess.DEVNULL, stdout=subprocess.PIPE, text=True)
+    return sorted(line for line in done.stdout.splitlines() if "::" in line)
+
+
+def test_the_shares_of_quick_are_all_that_is_there():
+    share = re.compile(r"--share \S+ ")
+    commands = [part.command for part in parts.QUICK if share.search(part.command)]
+    [whole] = {share.sub("", it) for it in commands}
+    all_tests = collected(whole)
+    assert len(all_tests) > len(commands) > 1 and sorted(sum(map(collected, commands), [])) == all_tests
+
+
+@pytest.mark.parametrize("words", ["0/2", "3/2", "1", "1/0", "a/b", "1/2/3"])
+def test_what_is_no_share_is_refused(words):
+    assert status("pytest", "--share", words, "--collect-only", f"{building.TOP}/tests/test_tables.py") == 4
+
+
 # ---- the tools with a control of their own
 
 @pytest.mark.parametrize("name", OWN_CONTROLS)
@@ -379,6 +428,16 @@ def test_a_plant_around_a_call_is_c(name):
     ("fn krb_carry::progress::follow: no proof: it calls `krb_carry::progress::Progress::take`, which is not proved", "")])
 def test_a_refusal_names_a_goal_of_the_function(said, goals):
     assert checks.goals_of(f"== krb_carry\n{said}\n1 passed", "krb_carry", "Progress::take") == goals
+
+
+@pytest.mark.parametrize("passed, said, is_seen", [
+    (False, "not so: this fault", True), (False, "not so: another one", False), (True, "this fault", False)])
+def test_a_plant_is_seen_by_what_tells_it(monkeypatch, passed, said, is_seen):
+    tool = scripts.load("plants")
+    monkeypatch.setattr(tool, "Copy", lambda *_: None)
+    monkeypatch.setattr(tool.checks, "run", lambda *_: (passed, said))
+    plant = planted.Plant("planted", "none", ("c matrix",), (), says="this fault")
+    assert tool.tried(plant).is_right == is_seen
 
 
 def test_a_plant_around_no_call_is_told():

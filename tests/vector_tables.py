@@ -15,7 +15,7 @@ import sys
 
 import os
 sys.path.insert(0, os.path.join(os.path.dirname(os.path.realpath(__file__)), "../tools"))
-from lib import usage
+from lib import options
 from lib.build import building
 from oracle.aes_tables import G, T, tables, test
 
@@ -135,15 +135,13 @@ def show(found):
 
 
 def main(words):
-    if words not in ([], ["--check"]):
-        sys.exit(__doc__)
+    form = options.Parser(__doc__, "--check").parse_args(words).form
     found = tables()
     test(found)
-    if not words:
+    if not form:
         show(found)
     elif not all([check(found), check_lanes()]):
         sys.exit(1)
 
 
-usage.answer(__doc__)
 main(sys.argv[1:])

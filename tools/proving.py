@@ -13,17 +13,15 @@ Needed: rt.
 import signal
 import sys
 
-from lib import usage
+from lib import options
 from lib.build import proving
 
 
 def main(words):
-    if len(words) != 1 or words[0] not in ("krbrelay", "krb_bench", "example_relay", "krb_c"):
-        proving.say(__doc__)
-        return 2
+    asked = options.Parser(__doc__).takes("crate", choices=["krbrelay", "krb_bench", "example_relay", "krb_c"]).parse_args(words)
     signal.signal(signal.SIGTERM, lambda number, _: sys.exit(128 + number))
     try:
-        return proving.ensure(words[0])
+        return proving.ensure(asked.crate)
     except OSError as fault:
         proving.say(f"tools/proving.py: {fault}")
         return 1
@@ -31,5 +29,4 @@ def main(words):
         return 130
 
 
-usage.answer(__doc__)
 sys.exit(main(sys.argv[1:]))

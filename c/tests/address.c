@@ -73,12 +73,13 @@ static void each_kind_of_ipv6(void)
         }
 }
 
-int main(void)
+int main(int count, char **words)
 {
     struct sockaddr_in ipv4 = { .sin_family = AF_INET };
     struct sockaddr_in6 ipv6 = { .sin6_family = AF_INET6 };
-    each_length(&ipv4, sizeof ipv4, KRBRELAY_IPV4, 4);
-    each_length(&ipv6, sizeof ipv6, KRBRELAY_IPV6, 16);
-    each_kind_of_ipv6();
+    check_only(1, count, words);
+    RUN(each_length(&ipv4, sizeof ipv4, KRBRELAY_IPV4, 4));
+    RUN(each_length(&ipv6, sizeof ipv6, KRBRELAY_IPV6, 16));
+    RUN(each_kind_of_ipv6());
     return check_status("address");
 }

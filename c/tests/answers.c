@@ -639,24 +639,25 @@ static void handles_that_move(void)
     free(h);
 }
 
-int main(void)
+int main(int count, char **words)
 {
+    check_only(1, count, words);
     make_keys();
-    frames_of_another_sealer();
-    round_trips();
-    sizes_of_frames();
-    sizes_before_sealing();
-    answers_of_a_size();
-    answers_of_a_sealer();
-    several_messages();
-    answers_of_several();
-    arguments();
-    fields_that_are_not_read();
-    moments_that_are_not();
-    refusals_of_safe();
-    refusals_of_priv();
-    headers();
-    names();
-    handles_that_move();
+    RUN(frames_of_another_sealer());
+    RUN(round_trips());
+    RUN(sizes_of_frames());
+    RUN(sizes_before_sealing());
+    RUN(answers_of_a_size());
+    RUN(answers_of_a_sealer());
+    RUN(several_messages());
+    RUN(answers_of_several());
+    RUN(arguments());
+    RUN(fields_that_are_not_read());
+    RUN(moments_that_are_not());
+    RUN(refusals_of_safe());
+    RUN(refusals_of_priv());
+    RUN(headers());
+    RUN(names());
+    RUN(handles_that_move());
     return check_status("answers");
 }

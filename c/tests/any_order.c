@@ -76,15 +76,16 @@ static void from_mit(uint32_t mode, int flags, int all)
     krb5_auth_con_free(ctx, mit);
 }
 
-int main(void)
+int main(int count, char **words)
 {
+    check_only(1, count, words);
     must(krb5_init_context(&ctx), "init_context");
     CHECK(example_main() == 0);
     for (uint32_t mode = KRBRELAY_SAFE; mode <= KRBRELAY_PRIV; mode++) {
-        from_mit(mode, KRB5_AUTH_CONTEXT_DO_SEQUENCE, 1);
-        from_mit(mode, KRB5_AUTH_CONTEXT_DO_SEQUENCE | KRB5_AUTH_CONTEXT_DO_TIME, 1);
-        from_mit(mode, KRB5_AUTH_CONTEXT_DO_TIME, 0);
-        from_mit(mode, 0, 0);
+        RUN(from_mit(mode, KRB5_AUTH_CONTEXT_DO_SEQUENCE, 1));
+        RUN(from_mit(mode, KRB5_AUTH_CONTEXT_DO_SEQUENCE | KRB5_AUTH_CONTEXT_DO_TIME, 1));
+        RUN(from_mit(mode, KRB5_AUTH_CONTEXT_DO_TIME, 0));
+        RUN(from_mit(mode, 0, 0));
     }
     krb5_free_context(ctx);
     return check_status("any_order");

@@ -142,7 +142,40 @@ static void frames_of_another_sealer(void)
     }
 }
 
-/* Interrupted and short draws are gone on with: the confounder is the bytes in their order. */
+/* What is sealed: user data, a record of each kind, and a peer's user data. */
+static const struct { uint32_t kind; uint8_t body[10]; size_t len; int is_of_peer; } sealed[] = {
+    { 0, "Dhi", 3, 0 }, { KRBRELAY_TEXT, "hi", 2, 0 }, { KRBRELAY_BATCH, { 0, 0, 0, 1, 'a', 0, 0, 0, 1, 'b' }, 10, 0 },
+    { KRBRELAY_CLOSE, "", 0, 0 }, { 0, "Dhi", 3, 1 },
+};
+
+/* Seals one of these by a confounder at a moment, or without a confounder by what the system has. */
+static void seal_one(size_t i, const struct krbrelay_moment *at, const uint8_t *confounder, uint8_t *to, size_t *size)
+{
+    const uint8_t *body = sealed[i].body;
+    size_t len = sealed[i].len, room = sizeof frame;
+    struct krbrelay_sealer s = sealer_at_7(18, KRBRELAY_PRIV);
+    struct krbrelay_peer p = KRBRELAY_INIT;
+    enum krbrelay_answer answer;
+    CHECK(peer_of(&p, 18, keys[1], KRBRELAY_PRIV, 1) == KRBRELAY_OK);
+    if (sealed[i].is_of_peer && confounder == NULL)
+        answer = krbrelay_peer_seal_now(&p, body, len, to, room, size);
+    else if (sealed[i].is_of_peer)
+        answer = krbrelay_peer_seal(&p, body, len, at, confounder, to, room, size);
+    else if (sealed[i].kind != 0 && confounder == NULL)
+        answer = krbrelay_sealer_seal_record_now(&s, sealed[i].kind, body, len, to, room, size);
+    else if (sealed[i].kind != 0)
+        answer = krbrelay_sealer_seal_record(&s, sealed[i].kind, body, len, at, confounder, to, room, size);
+    else if (confounder == NULL)
+        answer = krbrelay_sealer_seal_now(&s, body, len, to, room, size);
+    else
+        answer = krbrelay_sealer_seal(&s, body, len, at, confounder, to, room, size);
+    CHECK(answer == KRBRELAY_OK);
+    krbrelay_sealer_free(&s);
+    krbrelay_peer_free(&p);
+}
+
+/* Each call that reads the system seals what the one beside it does at the clock's moment, by the bytes that were
+ * drawn in their order: interrupted and short draws are gone on with. */
 static void draws_that_go_on(void)
 {
     static const int answers[][8] = { { 16 }, { -EINTR, 16 }, { 1, 15 }, { 5, -EINTR, -EINTR, 11 },
@@ -151,19 +184,16 @@ static void draws_that_go_on(void)
     struct krbrelay_moment at = moment(SECS, USEC);
     for (uint8_t i = 0; i < 16; i++)
         confounder[i] = i;
-    for (size_t i = 0; i < sizeof answers / sizeof answers[0]; i++) {
-        struct krbrelay_sealer s = sealer_at_7(18, KRBRELAY_PRIV), other = sealer_at_7(18, KRBRELAY_PRIV);
-        size_t size = 0, len = 0;
-        set_system();
-        bytes_rise = 1;
-        memcpy(draws, answers[i], sizeof draws);
-        CHECK(krbrelay_sealer_seal(&other, (const uint8_t *)"Dhi", 3, &at, confounder, expected,
-                                   sizeof expected, &len) == KRBRELAY_OK);
-        CHECK(seal_now(&s, sizeof frame, &size) == KRBRELAY_OK);
-        CHECK(next_byte == 16 && size == len && memcmp(frame, expected, len) == 0);
-        krbrelay_sealer_free(&s);
-        krbrelay_sealer_free(&other);
-    }
+    for (size_t i = 0; i < sizeof sealed / sizeof sealed[0]; i++)
+        for (size_t k = 0; k < sizeof answers / sizeof answers[0]; k++) {
+            size_t size = 0, len = 0;
+            set_system();
+            bytes_rise = 1;
+            memcpy(draws, answers[k], sizeof draws);
+            seal_one(i, &at, confounder, expected, &len);
+            seal_one(i, NULL, NULL, frame, &size);
+            CHECK(next_byte == 16 && size == len && memcmp(frame, expected, len) == 0);
+        }
 }
 
 /* A peer seals so too: its frame is the one of a sealer of its session, and its number rises. */
@@ -422,23 +452,24 @@ static void empty_handles(void)
     CHECK(krbrelay_receiver_is_empty(&r));
 }
 
-int main(void)
+int main(int count, char **words)
 {
+    check_only(1, count, words);
     for (int i = 0; i < 16; i++)
         keys[0][i] = (uint8_t)i;
     memset(keys[1], 0x11, 32);
     CHECK(krbrelay_is_supported() == 1);
-    clocks();
-    frames_of_another_sealer();
-    frames_of_a_peer();
-    draws_that_go_on();
-    faults_of_the_system();
-    answers_of_sealing();
-    records();
-    confounders_differ();
-    addresses();
-    no_addresses();
-    answers();
-    empty_handles();
+    RUN(clocks());
+    RUN(frames_of_another_sealer());
+    RUN(frames_of_a_peer());
+    RUN(draws_that_go_on());
+    RUN(faults_of_the_system());
+    RUN(answers_of_sealing());
+    RUN(records());
+    RUN(confounders_differ());
+    RUN(addresses());
+    RUN(no_addresses());
+    RUN(answers());
+    RUN(empty_handles());
     return check_status("calls");
 }

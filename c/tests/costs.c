@@ -2,6 +2,7 @@
  * A line for each case on standard output: call, what happens, mode, encryption type, size, answer, and of
  * the allocations how many, the bytes asked for, the largest, and the frame's bytes. Callgrind dumps the
  * instructions of each under the same line (c/costs reads both). */
+#include "check.h"
 #include "krbrelay.h"
 #include "session.h"
 
@@ -145,18 +146,10 @@ static const struct call { const char *name; enum krbrelay_answer (*made)(void);
 
 /* ---- cases */
 
-static void require(int is_so, const char *what)
-{
-    if (!is_so) {
-        fprintf(stderr, "costs: %s\n", what);
-        exit(1);
-    }
-}
-
 static void make_all(void)
 {
-    require(new_sealer() == KRBRELAY_OK && new_opener() == KRBRELAY_OK && new_receiver() == KRBRELAY_OK
-            && new_peer() == KRBRELAY_OK, "no handles");
+    check(new_sealer() == KRBRELAY_OK && new_opener() == KRBRELAY_OK && new_receiver() == KRBRELAY_OK
+          && new_peer() == KRBRELAY_OK, "no handles");
 }
 
 static void end_all(void)
@@ -170,8 +163,8 @@ static void end_all(void)
 static void seal_frame(void)
 {
     make_all();
-    require(krbrelay_sealer_seal_record(&sealer, KRBRELAY_TEXT, data, data_len, &now, confounder, frame, FRAME,
-                                        &frame_len) == KRBRELAY_OK, "no frame");
+    check(krbrelay_sealer_seal_record(&sealer, KRBRELAY_TEXT, data, data_len, &now, confounder, frame, FRAME,
+                                      &frame_len) == KRBRELAY_OK, "no frame");
     end_all();
 }
 
@@ -234,7 +227,7 @@ int main(int count, char **words)
         for (etype = 17; etype <= 18; etype++)
             for (int i = 1; i < count; i++) {
                 data_len = strtoul(words[i], NULL, 10);
-                require(data_len <= MOST, "the size");
+                check(data_len <= MOST, "the size");
                 measure_all();
             }
     return 0;

@@ -455,26 +455,27 @@ static void no_records(void)
     krbrelay_receiver_free(&l.receiver);
 }
 
-int main(void)
+int main(int count, char **words)
 {
+    check_only(1, count, words);
     for (int i = 0; i < 16; i++)
         keys[0][i] = (uint8_t)i;
     memset(keys[1], 0x11, 32);
-    no_remote_address();
-    no_number();
-    other_times();
-    absent_microseconds();
-    other_times_where_absent_is_0();
-    neither_time_nor_number();
-    receivers_address();
-    refusals();
-    long_addresses();
-    other_mode();
-    in_place();
-    nothing_given();
+    RUN(no_remote_address());
+    RUN(no_number());
+    RUN(other_times());
+    RUN(absent_microseconds());
+    RUN(other_times_where_absent_is_0());
+    RUN(neither_time_nor_number());
+    RUN(receivers_address());
+    RUN(refusals());
+    RUN(long_addresses());
+    RUN(other_mode());
+    RUN(in_place());
+    RUN(nothing_given());
     for (uint32_t mode = KRBRELAY_SAFE; mode <= KRBRELAY_PRIV; mode++)
         for (int etype = 17; etype <= 18; etype++)
-            a_lane(mode, etype);
-    no_records();
+            RUN(a_lane(mode, etype));
+    RUN(no_records());
     return check_status("demands");
 }

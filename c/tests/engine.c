@@ -438,19 +438,20 @@ static void many(size_t count)
 
 int main(int argc, char **argv)
 {
-    publishes();
-    widens();
-    hears_receipts();
-    stops(5, own, KRBRELAY_ENDED_OLDER, KRBRELAY_STANDS_OLDER);
-    stops(3, other, KRBRELAY_ENDED_FORKED, KRBRELAY_STANDS_FORKED);
-    no_ends();
-    flows();
-    pauses();
-    queues();
-    receives();
-    no_receivers();
-    readings();
-    openings();
-    many(argc > 1 ? strtoul(argv[1], NULL, 10) : 100000);
+    check_only(2, argc, argv);
+    RUN(publishes());
+    RUN(widens());
+    RUN(hears_receipts());
+    RUN(stops(5, own, KRBRELAY_ENDED_OLDER, KRBRELAY_STANDS_OLDER));
+    RUN(stops(3, other, KRBRELAY_ENDED_FORKED, KRBRELAY_STANDS_FORKED));
+    RUN(no_ends());
+    RUN(flows());
+    RUN(pauses());
+    RUN(queues());
+    RUN(receives());
+    RUN(no_receivers());
+    RUN(readings());
+    RUN(openings());
+    RUN(many(argc > 1 ? strtoul(argv[1], NULL, 10) : 100000));
     return check_status("engine");
 }

@@ -210,16 +210,17 @@ static void drawn_demands(void)
     krbrelay_opener_free(&opener);
 }
 
-int main(void)
+int main(int count, char **words)
 {
+    check_only(1, count, words);
     state = 7;
-    fields_of_a_session();
-    fields_of_an_expectation();
-    fields_of_a_demand();
-    fields_of_a_demand_of_a_peer();
-    other_numbers();
-    drawn_sessions();
-    drawn_expectations();
-    drawn_demands();
+    RUN(fields_of_a_session());
+    RUN(fields_of_an_expectation());
+    RUN(fields_of_a_demand());
+    RUN(fields_of_a_demand_of_a_peer());
+    RUN(other_numbers());
+    RUN(drawn_sessions());
+    RUN(drawn_expectations());
+    RUN(drawn_demands());
     return check_status("fields");
 }

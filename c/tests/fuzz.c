@@ -10,6 +10,7 @@
  *                              digits each, as fuzz_behind.py prints them
  *
  * With -DLIBFUZZER it is a target of libFuzzer and AFL++ in place of a program. */
+#include "check.h"
 #include "frames.h"
 #include "krbrelay.h"
 #include "session.h"
@@ -29,14 +30,6 @@ static int print_lines;
 
 /* What openers and peers demand where they demand all. */
 static struct krbrelay_demand all;
-
-#define HOLDS(fact) \
-    do { \
-        if (!(fact)) { \
-            fprintf(stderr, "%s:%d: not so: %s\n", __FILE__, __LINE__, #fact); \
-            abort(); \
-        } \
-    } while (0)
 
 /* A receiver and a peer that demand the number: new ones take the place of those that took a message. */
 static void make_receiver(uint32_t mode, int wide)
@@ -255,6 +248,7 @@ static void try_message(const uint8_t *frame, size_t len)
     static struct outcome unsealed, authentic, demanded;
     struct krbrelay_header header;
     enum krbrelay_answer read;
+    check_calls++;
     begin();
     if (len >= LONGEST)
         return;

@@ -64,9 +64,10 @@ static void what_counts(void)
     CHECK(!is_history(first, other));
 }
 
-int main(void)
+int main(int count, char **words)
 {
-    known_digests();
-    what_counts();
+    check_only(1, count, words);
+    RUN(known_digests());
+    RUN(what_counts());
     return check_status("history");
 }

@@ -363,8 +363,9 @@ static void one_way(krb5_enctype etype, uint32_t mode, int from_server, int who)
     krb5_auth_con_free(ctx, server.mit);
 }
 
-int main(void)
+int main(int count, char **words)
 {
+    check_only(1, count, words);
     /* The service keeps no file of the requests that it read. */
     setenv("KRB5RCACHENAME", "none:", 1);
     setenv("KRB5_CONFIG", "/dev/null", 1);
@@ -375,9 +376,9 @@ int main(void)
     for (krb5_enctype etype = 17; etype <= 18; etype++)
         for (uint32_t mode = KRBRELAY_SAFE; mode <= KRBRELAY_PRIV; mode++)
             for (int from_server = 0; from_server < 2; from_server++) {
-                with_a_peer(etype, mode, from_server);
+                RUN(with_a_peer(etype, mode, from_server));
                 for (int who = 0; who < 3; who++)
-                    one_way(etype, mode, from_server, who);
+                    RUN(one_way(etype, mode, from_server, who));
             }
     krb5_free_context(ctx);
     return check_status("mit");

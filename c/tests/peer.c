@@ -632,32 +632,33 @@ static void numbers_that_are_not_told(void)
     krbrelay_receiver_free(&r);
 }
 
-int main(void)
+int main(int count, char **words)
 {
+    check_only(1, count, words);
     for (int i = 0; i < 16; i++)
         keys[0][i] = (uint8_t)i;
     memset(keys[1], 0x11, 32);
     for (int etype = 17; etype <= 18; etype++)
         for (uint32_t mode = KRBRELAY_SAFE; mode <= KRBRELAY_PRIV; mode++) {
-            both_directions(etype, mode);
-            repeats_and_gaps(etype, mode);
-            other_refusals(etype, mode, 7);
-            other_refusals(etype, mode, 8);
-            reflection(etype, mode);
-            going_on(etype, mode);
-            last_numbers(etype, mode);
-            numbers_that_came(etype, mode);
+            RUN(both_directions(etype, mode));
+            RUN(repeats_and_gaps(etype, mode));
+            RUN(other_refusals(etype, mode, 7));
+            RUN(other_refusals(etype, mode, 8));
+            RUN(reflection(etype, mode));
+            RUN(going_on(etype, mode));
+            RUN(last_numbers(etype, mode));
+            RUN(numbers_that_came(etype, mode));
         }
-    times();
-    absent_numbers();
-    bytes_of_exports();
-    exports_that_are_none();
-    reasons_of_makers();
-    demands_that_are_none();
-    reasons_of_sealing();
-    reasons_of_opening();
-    nothing_held();
-    handles_that_move();
-    numbers_that_are_not_told();
+    RUN(times());
+    RUN(absent_numbers());
+    RUN(bytes_of_exports());
+    RUN(exports_that_are_none());
+    RUN(reasons_of_makers());
+    RUN(demands_that_are_none());
+    RUN(reasons_of_sealing());
+    RUN(reasons_of_opening());
+    RUN(nothing_held());
+    RUN(handles_that_move());
+    RUN(numbers_that_are_not_told());
     return check_status("peer");
 }

@@ -1,7 +1,9 @@
 /* What the library does on this processor: `processor supported`, `processor unsupported` or `processor
  * refused`. Run under an emulator of an old processor too: no call ends the program there. The object for
  * x86-64-v3 says `refused` on an older one: there what makes a handle or reads a message answers, and
- * other calls, krbrelay_*_free among them, may need what the processor hasn't, so they aren't made. */
+ * other calls, krbrelay_*_free among them, may need what the processor hasn't, so they aren't made.
+ * `processor unsupported told` runs on any x86-64: it takes back what the compiler's library found, so a call
+ * that doesn't ask is seen without an emulator. */
 #include "check.h"
 #include "frames.h"
 #include "krbrelay.h"
@@ -204,19 +206,34 @@ static void others(void)
     krbrelay_clear_stack();
 }
 
+#if defined(__x86_64__)
+extern struct { unsigned vendor, type, subtype, features[1]; } __cpu_model;    /* of libgcc */
+
+static void forget_features(void)
+{
+    __builtin_cpu_init();
+    __cpu_model.features[0] = 0;
+}
+#else
+static void forget_features(void) { }
+#endif
+
 int main(int argc, char **argv)
 {
     int is_supported = argc > 1 && strcmp(argv[1], "supported") == 0;
+    check_only(3, argc, argv);
     is_refused = argc > 1 && strcmp(argv[1], "refused") == 0;
     for (int i = 0; i < 16; i++)
         key[i] = (uint8_t)i;
+    if (argc > 2 && strcmp(argv[2], "told") == 0)
+        forget_features();
     CHECK(krbrelay_is_supported() == is_supported);
-    makers(is_supported ? KRBRELAY_OK : KRBRELAY_PROCESSOR);
+    RUN(makers(is_supported ? KRBRELAY_OK : KRBRELAY_PROCESSOR));
     if (is_supported)
-        messages();
+        RUN(messages());
     if (!is_refused) {
-        empty_handles();
-        others();
+        RUN(empty_handles());
+        RUN(others());
     }
     return check_status(is_supported ? "processor, supported" : "processor, unsupported");
 }

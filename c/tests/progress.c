@@ -278,17 +278,18 @@ static void rewind_of_any(void)
 int main(int argc, char **argv)
 {
     uint64_t sequences = argc > 1 ? strtoull(argv[1], NULL, 10) : 1000;
+    check_only(3, argc, argv);
     state = argc > 2 ? strtoull(argv[2], NULL, 10) : 66;
     for (uint64_t i = 0; i < sequences; i++) {
-        sequence();
+        RUN(sequence());
         for (int j = 0; j < 100; j++) {
-            news_of_any();
-            counts_of_any();
-            confirmation_of_any();
-            rewind_of_any();
+            RUN(news_of_any());
+            RUN(counts_of_any());
+            RUN(confirmation_of_any());
+            RUN(rewind_of_any());
         }
     }
     for (uint64_t i = 0; i < sequences / 20; i++)
-        carriage();
+        RUN(carriage());
     return check_status("progress");
 }

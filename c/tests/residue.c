@@ -319,6 +319,7 @@ static void end_in_each_way(void)
 
 int main(int argc, char **argv)
 {
+    check_only(2, argc, argv);
     for (int i = 0; i < 32; i++)
         key[i] = (uint8_t)(0xa0 + i * 5);
     for (int i = 0; i < SIZE; i++)
@@ -326,8 +327,8 @@ int main(int argc, char **argv)
     for (int i = 0; i < 16; i++)
         confounder[i] = (uint8_t)(0xc1 + 3 * i);
     if (argc > 1 && strcmp(argv[1], "left") == 0)
-        leave_key();
+        RUN(leave_key());
     else
-        end_in_each_way();
+        RUN(end_in_each_way());
     return check_status("residue");
 }

@@ -3,6 +3,7 @@
  * times wrong in one or several ways, so that the first reason counts.
  *
  *   sequences [CALLS [SEED]]       makes so many calls at least */
+#include "check.h"
 #include "krbrelay.h"
 #include "session.h"
 
@@ -14,16 +15,6 @@
 
 enum { HANDLES = 4, FRAMES = 16, LONGEST = 600, DATA = 48, NUMBERS = 512 };
 
-#define HOLDS(fact) \
-    do { \
-        if (!(fact)) { \
-            fprintf(stderr, "%s:%d: after %llu calls: not so: %s\n", __FILE__, __LINE__, \
-                    (unsigned long long)calls, #fact); \
-            abort(); \
-        } \
-    } while (0)
-
-static unsigned long long calls;
 static uint64_t state;
 static uint8_t keys[2][32];
 
@@ -78,10 +69,10 @@ static enum krbrelay_answer first_of(const enum krbrelay_answer *row, size_t cou
 /* A call was made, and answered as the model says. */
 static void answered(enum krbrelay_answer answer, enum krbrelay_answer expected, const char *call)
 {
-    calls++;
+    check_calls++;
     if (answer == expected)
         return;
-    fprintf(stderr, "after %llu calls %s answered %d, and the model %d\n", calls, call, (int)answer,
+    fprintf(stderr, "after %llu calls %s answered %d, and the model %d\n", check_calls, call, (int)answer,
             (int)expected);
     abort();
 }
@@ -324,7 +315,7 @@ static void end_sealer(size_t i)
         if (sealers[i].m.life == LIVE)
             sealers[i].m.life = WIPED;
     }
-    calls++;
+    check_calls++;
 }
 
 /* ---- opening */
@@ -532,7 +523,7 @@ static void end_opener(size_t i)
         if (openers[i].m.life == LIVE)
             openers[i].m.life = WIPED;
     }
-    calls++;
+    check_calls++;
 }
 
 /* ---- receiving */
@@ -785,7 +776,7 @@ static void end_peer(size_t i, size_t end)
     }
     krbrelay_peer_free(&it->h);
     it->m.life = NOTHING;
-    calls++;
+    check_calls++;
 }
 
 static void peer(size_t i)
@@ -812,7 +803,7 @@ static void ask_receiver(size_t i)
     if (one_in(20)) {
         krbrelay_receiver_free(&receivers[i].h);
         receivers[i].m.life = NOTHING;
-        calls++;
+        check_calls++;
     }
 }
 
@@ -828,7 +819,7 @@ static void window(void)
     if (number >= NUMBERS) {
         first = draw(100);
         krbrelay_window_new(&it, first);
-        calls++;
+        check_calls++;
         for (uint64_t i = 0; i < NUMBERS; i++)
             taken[i] = i < first;
         highest = first > 0 ? first - 1 : 0;
@@ -882,7 +873,7 @@ static void name_answers(void)
              "krbrelay_answer_text");
     HOLDS(!known || (strcmp(text, krbrelay_strerror(answer)) == 0 && strlen(text) == size));
     HOLDS(krbrelay_is_refusal(answer) == (krbrelay_class_of(answer) == KRBRELAY_CLASS_REFUSAL));
-    calls += 3;
+    check_calls += 3;
 }
 
 static void ask_system(void)
@@ -897,7 +888,7 @@ static void ask_system(void)
              "krbrelay_address_from");
     HOLDS(address.len == 4 && memcmp(address.bytes, &from.sin_addr, 4) == 0);
     krbrelay_clear_stack();
-    calls += 3;
+    check_calls += 3;
 }
 
 static void header(void)
@@ -945,7 +936,7 @@ int main(int argc, char **argv)
     for (int i = 0; i < 16; i++)
         keys[0][i] = (uint8_t)i;
     memset(keys[1], 0x11, 32);
-    while (calls < most)
+    while (check_calls < most)
         step();
     for (size_t i = 0; i < HANDLES; i++) {
         krbrelay_sealer_free(&sealers[i].h);
@@ -954,6 +945,6 @@ int main(int argc, char **argv)
         for (size_t end = 0; end < ENDS; end++)
             krbrelay_peer_free(&peers[i][end].h);
     }
-    printf("sequences: %llu calls, each answered as the model says\n", calls);
+    printf("sequences: %llu calls, each answered as the model says\n", check_calls);
     return 0;
 }

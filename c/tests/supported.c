@@ -40,8 +40,9 @@ static void without_each(void)
 static void without_each(void) { CHECK(krbrelay_is_supported() == 1); }
 #endif
 
-int main(void)
+int main(int count, char **words)
 {
-    without_each();
+    check_only(1, count, words);
+    RUN(without_each());
     return check_status("supported");
 }

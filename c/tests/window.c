@@ -98,16 +98,17 @@ static void the_last_number(void)
     CHECK(window.highest == UINT64_MAX);
 }
 
-int main(void)
+int main(int count, char **words)
 {
     static const uint64_t bases[] = { 0, 1, 7, 4294967290u, UINT64_MAX - SPAN + 1 };
+    check_only(1, count, words);
     for (size_t i = 0; i < sizeof bases / sizeof bases[0]; i++) {
         struct krbrelay_window window = KRBRELAY_INIT;
         if (bases[i] != 0)
             krbrelay_window_new(&window, bases[i]);
-        beside_the_model(&window, bases[i]);
+        RUN(beside_the_model(&window, bases[i]));
     }
-    first_numbers();
-    the_last_number();
+    RUN(first_numbers());
+    RUN(the_last_number());
     return check_status("window");
 }

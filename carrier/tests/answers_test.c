@@ -88,12 +88,12 @@ static void lock_twice(void)
     take_lock(&lock);
 }
 
-int main(void)
+int main(int count, char **words)
 {
-    test_values();
+    check_only(1, count, words);
+    RUN(test_values());
     check(status_of(write_enough) == 0, "a text that has room");
     check(status_of(write_too_much) == 1, "a name that is cut ends the program");
     check(status_of(lock_twice) == 1, "so does a lock that can't be taken");
-    puts("passed");
-    return 0;
+    return check_status("answers_test");
 }

@@ -1,5 +1,5 @@
 /* Tests a carrier by what carrier.h says of it:  carrier_test WHERE [REPLICAS]
- * It needs shards 900 and 901 that are empty. The last line is 'passed' or 'FAILED ..'. */
+ * It needs shards 900 and 901 that are empty. */
 #include "carrier.h"
 #include "check.h"
 
@@ -114,7 +114,8 @@ int main(int count, char **words)
     struct carrier_options options = { .replicas = count > 2 ? (unsigned)atoi(words[2]) : 1 };
     struct carrier *c, *reader;
     unsigned i;
-    check(count >= 2, "usage: carrier_test WHERE [REPLICAS]");
+    check_only(3, count, words);
+    check(count >= 2, "usage: carrier_test WHERE [REPLICAS [TEST..]]");
     options.where = words[1];
     c = carrier_open(&options);
     reader = carrier_open(&options);
@@ -125,13 +126,12 @@ int main(int count, char **words)
     await_confirmed(c);
     for (i = 2; i < FRAMES; i++)
         check(offsets[i] > offsets[i - 2], "offsets rise");
-    read_from(reader, 0, 0);
-    read_from(reader, 1, 0);
+    RUN(read_from(reader, 0, 0));
+    RUN(read_from(reader, 1, 0));
     for (i = 101; i + 2 < FRAMES; i += 101)
-        read_from(reader, i + 2, offsets[i]);
-    check_shards(c, reader);
+        RUN(read_from(reader, i + 2, offsets[i]));
+    RUN(check_shards(c, reader));
     carrier_close(c);
     carrier_close(reader);
-    puts("passed");
-    return 0;
+    return check_status("carrier_test");
 }

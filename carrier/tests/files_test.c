@@ -1,6 +1,5 @@
 /* Files of keys: who may use them, that no two sessions have a key or a name in common, and that what was read
- * isn't left in freed blocks:  files_test FOLDER
- * The last line is 'passed' or 'FAILED ..'. */
+ * isn't left in freed blocks:  files_test FOLDER */
 #include "check.h"
 #include "left.h"
 #include "private.h"
@@ -117,12 +116,12 @@ static void test_key_of_the_way_back(void)
 
 int main(int count, char **words)
 {
-    check(count == 2, "files_test FOLDER");
+    check_only(2, count, words);
+    check(count >= 2, "files_test FOLDER [TEST..]");
     snprintf(path, sizeof path, "%s/file", words[1]);
-    test_modes();
-    test_key_of_the_way_back();
-    test_names();
-    test_keys();
-    puts("passed");
-    return 0;
+    RUN(test_modes());
+    RUN(test_key_of_the_way_back());
+    RUN(test_names());
+    RUN(test_keys());
+    return check_status("files_test");
 }

@@ -1,6 +1,6 @@
+/* Blocks that are freed with a secret in them, in a program that is linked with -Wl,--wrap=free. */
 #ifndef LEFT_H
 #define LEFT_H
-/* Blocks that are freed with a secret in them, in a program that is linked with -Wl,--wrap=free. */
 #include "check.h"
 
 #include <malloc.h>

@@ -1,5 +1,4 @@
-/* Tests the log by what log.h says of it:  log_test
- * The last line is 'passed' or 'FAILED ..'. */
+/* Tests the log by what log.h says of it:  log_test */
 #include "check.h"
 #include "clock.h"
 #include "log.h"
@@ -89,14 +88,14 @@ static void test_limit(void)
     check_line("");
 }
 
-int main(void)
+int main(int count, char **words)
 {
     FILE *file = tmpfile();
+    check_only(1, count, words);
     check(file != NULL && dup2(fileno(file), STDERR_FILENO) >= 0,
           "a file in the place of standard error");
-    test_values();
-    test_long();
-    test_limit();
-    puts("passed");
-    return 0;
+    RUN(test_values());
+    RUN(test_long());
+    RUN(test_limit());
+    return check_status("log_test");
 }

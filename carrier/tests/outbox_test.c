@@ -1,7 +1,7 @@
 /* Seals texts from an outbox, and opens each of the frames:  outbox_test FOLDER
  * Texts of no bytes up to the longest, the close, confounders, the last number, what was taken back, what is
  * noted for receipts or is done, what freed blocks have, whose turn it is, the next number's compare-and-set,
- * and the bound of texts that wait. The last line is 'passed' or 'FAILED ..'. */
+ * and the bound of texts that wait. */
 #include "check.h"
 #include "clock.h"
 #include "left.h"
@@ -12,7 +12,7 @@
 enum { LONGEST = 1000000, SAME = 40, TEXTS = 6 };
 
 static uint8_t bytes[LONGEST], frame[KRBRELAY_FRAME_LIMIT], drawn[4096];
-static size_t drawn_len;
+static size_t drawn_len, confounders; /* bytes that were drawn; how many frames have some of them */
 static const char secret[] = "a text that waits to be sealed";
 static const size_t lens[TEXTS] = { 0, 1, 16, 0, LONGEST, 5 };
 
@@ -131,6 +131,7 @@ static void test_texts(struct outbox *outbox)
     outbox_end_frames(outbox);
     krbrelay_receiver_free(&receiver);
     seal_free(&sending);
+    confounders = TEXTS + 1;
 }
 
 /* Where the encrypted bytes of a KRB-PRIV begin: after the tag a2 of its cipher, a length, the tag 04 of
@@ -176,14 +177,13 @@ static void check_confounder(const struct session *of, uint64_t number, const ui
     krbrelay_sealer_free(&sealer);
 }
 
-/* The first block that is encrypted is the confounder: of equal texts it differs each time. So many frames
- * were sealed before. */
-static void test_confounders(struct outbox *outbox, size_t before)
+/* The first block that is encrypted is the confounder: of equal texts it differs each time. */
+static void test_confounders(struct outbox *outbox)
 {
     static uint8_t first[SAME][16];
     struct session of = session_of("confounders", KRBRELAY_PRIV, 1);
     struct sending sending = sending_of(of);
-    const uint8_t *found = NULL;
+    const uint8_t *found = NULL, *next = drawn + 16 * confounders;
     uint64_t number = 0;
     size_t len = 0, i, k;
     for (i = 0; i < SAME; i++)
@@ -194,7 +194,7 @@ static void test_confounders(struct outbox *outbox, size_t before)
         memcpy(first[i], cipher_of(found, len), 16);
         for (k = 0; k < i; k++)
             check(memcmp(first[i], first[k], 16) != 0, "confounders differ");
-        check_confounder(&of, number, found, len, drawn + 16 * (before + i));
+        check_confounder(&of, number, found, len, next + 16 * i);
     }
     check(i == SAME, "a frame for each of the equal texts");
     outbox_end_frames(outbox);
@@ -467,28 +467,28 @@ int main(int count, char **words)
     struct outbox outbox = { 0 };
     char path[4096];
     size_t i;
-    check(count == 2, "outbox_test FOLDER");
+    check_only(2, count, words);
+    check(count >= 2, "outbox_test FOLDER [TEST..]");
     for (i = 0; i < LONGEST; i++)
         bytes[i] = (uint8_t)(i * 7 + i / 256);
     snprintf(path, sizeof path, "%s/outbox.db", words[1]);
     check(outbox_open(&outbox, path) == 0, "an outbox is opened");
-    test_texts(&outbox);
+    RUN(test_texts(&outbox));
     check(sqlite3_exec(outbox.db, "DELETE FROM text; DELETE FROM sealed", NULL, NULL, NULL) == SQLITE_OK, "texts are taken");
-    test_confounders(&outbox, TEXTS + 1);
+    RUN(test_confounders(&outbox));
     check(sqlite3_exec(outbox.db, "DELETE FROM text; DELETE FROM sealed", NULL, NULL, NULL) == SQLITE_OK, "texts are taken");
-    test_last_number(&outbox);
+    RUN(test_last_number(&outbox));
     check(sqlite3_exec(outbox.db, "DELETE FROM text; DELETE FROM sealed", NULL, NULL, NULL) == SQLITE_OK, "texts are taken");
-    test_taken_back(&outbox);
+    RUN(test_taken_back(&outbox));
     check(sqlite3_exec(outbox.db, "DELETE FROM text; DELETE FROM sealed", NULL, NULL, NULL) == SQLITE_OK, "texts are taken");
-    test_noted(&outbox);
+    RUN(test_noted(&outbox));
     check(sqlite3_exec(outbox.db, "DELETE FROM text; DELETE FROM sealed", NULL, NULL, NULL) == SQLITE_OK, "texts are taken");
-    test_nothing_left(&outbox);
-    test_compare(&outbox);
-    test_bound(&outbox);
-    test_done(&outbox);
-    test_ended(&outbox);
-    test_owner(&outbox, path);
+    RUN(test_nothing_left(&outbox));
+    RUN(test_compare(&outbox));
+    RUN(test_bound(&outbox));
+    RUN(test_done(&outbox));
+    RUN(test_ended(&outbox));
+    RUN(test_owner(&outbox, path));
     outbox_close(&outbox);
-    puts("passed");
-    return 0;
+    return check_status("outbox_test");
 }

@@ -1,7 +1,6 @@
 /* Fails the power before each sync and deletion of an outbox, a store and a carrier over SQLite
  * (power.h), and looks at what a process finds that opens them then:  power_test FOLDER
- * What was said to be committed or confirmed is there, whole, and in its order. The last line is 'passed'
- * or 'FAILED ..'. */
+ * What was said to be committed or confirmed is there, whole, and in its order. */
 #include "carrier.h"
 #include "check.h"
 #include "effect.h"
@@ -286,6 +285,5 @@ int main(int count, char **words)
         }
     check(is_at_end && last_told(TOOK) == TEXTS, "it comes to its end");
     check(step > 5 * TEXTS, "the power failed at many steps");
-    puts("passed");
-    return 0;
+    return check_status("power_test");
 }

@@ -1,7 +1,7 @@
 /* What a shard takes of frames, among them those of an independent sealer, that nothing of a transaction is
  * stored if an effect of it fails, and what is left in memory:
  *     shard_test FOLDER
- * Built with -Wl,--wrap=free. The last line is 'passed' or 'FAILED ..'. */
+ * Built with -Wl,--wrap=free. */
 #include "check.h"
 #include "effects.h"
 #include "shard.h"
@@ -190,6 +190,5 @@ int main(int count, char **words)
     check(freed == 1 && left == 0, "what was received isn't left in memory");
     carrier_close(carrier);
     sessions_forget(sessions);
-    puts("passed");
-    return 0;
+    return check_status("shard_test");
 }

@@ -1,5 +1,5 @@
 /* Tests a store by what store.h says of it:  store_test WHERE It needs a store without shard 900
- * and session 'tom-7'. The last line is 'passed' or 'FAILED ..'. */
+ * and session 'tom-7'. */
 #include "check.h"
 #include "effect.h"
 
@@ -227,6 +227,5 @@ int main(int count, char **words)
     store_close(other);
     if (strncmp(words[1], "postgresql", 10) == 0) /* over SQLite a process alone may be lost */
         test_lost(words[1]);
-    puts("passed");
-    return 0;
+    return check_status("store_test");
 }

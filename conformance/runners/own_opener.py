@@ -23,8 +23,8 @@ def address(text: str) -> tuple[int, bytes]:
 def session_of(asked: Asked) -> Session | None:
     if "-" in (asked.sender, asked.receiver) or asked.number is None or asked.time not in (IF_PRESENT, REQUIRED):
         return None
-    return Session(asked.key, asked.mode, asked.number, address(asked.sender), address(asked.receiver), False,
-                   asked.receiver_required, asked.time == REQUIRED, asked.skew)
+    return Session(asked.key, asked.mode, asked.number, address(asked.sender), address(asked.receiver),
+                   require_to=asked.receiver_required, expect_time=asked.time == REQUIRED, skew=asked.skew)
 
 
 def user_data(texts: list[bytes] | None) -> bytes:

@@ -1,5 +1,7 @@
 /* Exchanges messages between libkrbrelay and Heimdal's library in one process, 1,000 each way for
  * each kind and encryption type, and prints a line for each. */
+#include "../../c/tests/check.h"
+
 #include <krb5.h>
 #include <krbrelay.h>
 #include <stdio.h>
@@ -12,26 +14,18 @@ static krb5_context ctx;
 static uint8_t sender_bytes[4] = { 10, 0, 0, 1 }, receiver_bytes[4] = { 10, 0, 0, 255 };
 static uint8_t key[32], text[MESSAGES], frame[KRBRELAY_FRAME_SIZE(MESSAGES)], back[sizeof frame];
 
-static void must(int holds, const char *what)
-{
-    if (holds)
-        return;
-    fprintf(stderr, "heimdal: %s\n", what);
-    exit(2);
-}
-
 static krb5_auth_context context_of(int etype, uint8_t *local, uint8_t *remote)
 {
     krb5_auth_context c;
     krb5_address from = { KRB5_ADDRESS_INET, { 4, local } };
     krb5_address to = { KRB5_ADDRESS_INET, { 4, remote } };
     krb5_keyblock block = { etype, { etype == 17 ? 16 : 32, key } };
-    must(krb5_auth_con_init(ctx, &c) == 0, "init");
-    must(krb5_auth_con_setaddrs(ctx, c, &from, &to) == 0, "setaddrs");
-    must(krb5_auth_con_setflags(ctx, c, FLAGS) == 0, "setflags");
-    must(krb5_auth_con_setkey(ctx, c, &block) == 0, "setkey");
-    must(krb5_auth_con_setlocalseqnumber(ctx, c, FIRST) == 0, "local number");
-    must(krb5_auth_con_setremoteseqnumber(ctx, c, FIRST) == 0, "remote number");
+    check(krb5_auth_con_init(ctx, &c) == 0, "init");
+    check(krb5_auth_con_setaddrs(ctx, c, &from, &to) == 0, "setaddrs");
+    check(krb5_auth_con_setflags(ctx, c, FLAGS) == 0, "setflags");
+    check(krb5_auth_con_setkey(ctx, c, &block) == 0, "setkey");
+    check(krb5_auth_con_setlocalseqnumber(ctx, c, FIRST) == 0, "local number");
+    check(krb5_auth_con_setremoteseqnumber(ctx, c, FIRST) == 0, "remote number");
     return c;
 }
 
@@ -50,7 +44,7 @@ static int to_heimdal(uint32_t mode, int etype)
     struct krbrelay_sealer sealer = { 0 };
     int good = 0;
     set_address(&session.sender, sender_bytes);
-    must(krbrelay_sealer_new(&sealer, etype, key, etype == 17 ? 16 : 32, &session) == 0, "sealer");
+    check(krbrelay_sealer_new(&sealer, etype, key, etype == 17 ? 16 : 32, &session) == 0, "sealer");
     for (size_t len = 0; len < MESSAGES; len++) {
         struct krbrelay_moment at = { 1000000000, (uint32_t)len, 0 };
         uint8_t confounder[16];
@@ -58,8 +52,8 @@ static int to_heimdal(uint32_t mode, int etype)
         krb5_data in, out = { 0, NULL };
         krb5_replay_data replay;
         krb5_generate_random_block(confounder, sizeof confounder);
-        must(krbrelay_sealer_seal(&sealer, text, len, &at, confounder, frame, sizeof frame, &size)
-             == 0, "seal");
+        check(krbrelay_sealer_seal(&sealer, text, len, &at, confounder, frame, sizeof frame, &size)
+              == 0, "seal");
         in.length = size;
         in.data = frame;
         if ((mode == KRBRELAY_SAFE ? krb5_rd_safe(ctx, c, &in, &out, &replay)
@@ -82,7 +76,7 @@ static int to_ours(uint32_t mode, int etype)
     int good = 0;
     set_address(&expect.sender, sender_bytes);
     set_address(&expect.receiver, receiver_bytes);
-    must(krbrelay_opener_new(&opener, etype, key, etype == 17 ? 16 : 32, &expect) == 0, "opener");
+    check(krbrelay_opener_new(&opener, etype, key, etype == 17 ? 16 : 32, &expect) == 0, "opener");
     for (size_t len = 0; len < MESSAGES; len++) {
         struct krbrelay_demand demand = { .how_sender = KRBRELAY_REQUIRED,
             .how_receiver = KRBRELAY_IF_PRESENT, .how_number = KRBRELAY_REQUIRED,
@@ -92,8 +86,8 @@ static int to_ours(uint32_t mode, int etype)
         size_t size = 0;
         krb5_data in = { len, text }, out = { 0, NULL };
         krb5_replay_data replay;
-        must((mode == KRBRELAY_SAFE ? krb5_mk_safe(ctx, c, &in, &out, &replay)
-                                    : krb5_mk_priv(ctx, c, &in, &out, &replay)) == 0, "mk");
+        check((mode == KRBRELAY_SAFE ? krb5_mk_safe(ctx, c, &in, &out, &replay)
+                                     : krb5_mk_priv(ctx, c, &in, &out, &replay)) == 0, "mk");
         if (krbrelay_opener_open(&opener, out.data, out.length, &demand, &at, back, sizeof back,
                                  &size, &carried) == KRBRELAY_OK)
             good += size == len && memcmp(back, text, len) == 0;
@@ -107,7 +101,7 @@ static int to_ours(uint32_t mode, int etype)
 int main(void)
 {
     int failed = 0;
-    must(krb5_init_context(&ctx) == 0, "init_context");
+    check(krb5_init_context(&ctx) == 0, "init_context");
     krb5_generate_random_block(key, sizeof key);
     krb5_generate_random_block(text, sizeof text);
     for (uint32_t mode = KRBRELAY_SAFE; mode <= KRBRELAY_PRIV; mode++)

@@ -3,6 +3,7 @@
  * changed, in threads and in a forked child. MIT's code reads what is made here, and makes what is
  * read here. The last line is 'kept: N checks held, M failed'. */
 #define _GNU_SOURCE
+#include "../../c/tests/check.h"
 #include "../kept.h"
 #include "both.h"
 
@@ -11,18 +12,6 @@
 #include <unistd.h>
 
 enum { THREADS = 8, MESSAGES = 500 };
-
-static int held, failed;
-
-#define CHECK(fact) \
-    do { \
-        if (fact) { \
-            __atomic_fetch_add(&held, 1, __ATOMIC_RELAXED); \
-        } else { \
-            __atomic_fetch_add(&failed, 1, __ATOMIC_RELAXED); \
-            printf("%s:%d: not so: %s\n", __FILE__, __LINE__, #fact); \
-        } \
-    } while (0)
 
 /* A session: its two ends, one of which is MIT's. */
 struct pair { krb5_context ctx; krb5_auth_context sender, receiver; int etype; };
@@ -231,22 +220,22 @@ static void forked(krb5_context ctx)
     end_pair(&p);
 }
 
-int main(void)
+int main(int count, char **words)
 {
     krb5_context ctx = NULL;
+    check_only(1, count, words);
     must(krb5_init_context(&ctx), "init_context");
     find_mit_calls();
     for (int etype = 17; etype <= 18; etype++) {
-        one_handle_for_a_key(ctx, etype);
-        key_changes(ctx, etype);
-        key_is_left(ctx, etype);
-        addresses_change(ctx, etype);
+        RUN(one_handle_for_a_key(ctx, etype));
+        RUN(key_changes(ctx, etype));
+        RUN(key_is_left(ctx, etype));
+        RUN(addresses_change(ctx, etype));
     }
-    contexts_come_and_go(ctx);
-    many_contexts(ctx);
-    threads();
-    forked(ctx);
+    RUN(contexts_come_and_go(ctx));
+    RUN(many_contexts(ctx));
+    RUN(threads());
+    RUN(forked(ctx));
     krb5_free_context(ctx);
-    printf("kept: %d checks held, %d failed\n", held, failed);
-    return failed != 0;
+    return check_status("kept");
 }

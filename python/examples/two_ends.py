@@ -5,21 +5,11 @@ from krbrelay import Address, Mode, Opener, Refusal, Sealer
 KEY = b"chicken teriyaki"
 ALICE, BOB = Address.ip("10.0.0.1"), Address.ip("10.0.0.255")
 
-
-def sealed(text, number):
-    """The message of the text at this sequence number and now."""
-    with Sealer(17, KEY, mode=Mode.PRIV, sender=ALICE, first=number) as sealer:
-        return sealer.seal(text)
-
-
-def main():
-    frame = sealed(b"hello", 7)
-    with Opener(17, KEY, mode=Mode.PRIV, sender=ALICE, receiver=BOB) as opener:
-        print(f"message 7: {opener.unseal(frame, 7).decode()}")
-        try:
-            opener.unseal(frame, 8)
-        except Refusal as refusal:
-            print(f"open: {refusal.code.value} {refusal.name}")
-
-
-main()
+with Sealer(17, KEY, mode=Mode.PRIV, sender=ALICE, first=7) as sealer:
+    frame = sealer.seal(b"hello")
+with Opener(17, KEY, mode=Mode.PRIV, sender=ALICE, receiver=BOB) as opener:
+    print(f"message 7: {opener.unseal(frame, 7).decode()}")
+    try:
+        opener.unseal(frame, 8)
+    except Refusal as refusal:
+        print(f"open: {refusal.code.value} {refusal.name}")

@@ -1,15 +1,25 @@
-"""Jobs of which one line is another, and what the commands say of them: the rows of keys.toml."""
+"""Jobs of which one line is another, and what the commands say of them: the rows of keys.toml, in the order of
+tables/job_keys.toml."""
 import os
 
 from lib import toml_reader
 
 ROWS = os.path.join(os.path.dirname(os.path.abspath(__file__)), "keys.toml")
+KEYS = os.path.join(os.path.dirname(ROWS), "../../tables/job_keys.toml")
 COMMANDS = ("seal", "open", "relay")
 UNKNOWN = "unknown key"
 
 
 def rows():
-    return toml_reader.load(ROWS)
+    """The rows. Those of lines say which commands have their key, and those of a flag are made."""
+    table, keys = toml_reader.load(ROWS), {**toml_reader.load(KEYS)["sender"], UNKNOWN: {}}
+    lines, order = {row["key"]: row for row in table["lines"]}, table["order"]
+    for name in (it for it in keys if keys[it].get("kind") == "flag"):
+        lines[name] = {how: [it.replace("KEY", name) for it in table["flag"][how]] for how in ("bad", "good")}
+        order[name] = [lines[name][how][0] for how in ("good", "bad")]
+    table["lines"] = [{"commands": COMMANDS, **keys[it], **lines[it], "key": it} for it in keys]
+    table["order"] = {it: order[it] for it in keys}
+    return table
 
 
 def sender(table, command, key=None, line="", more=""):

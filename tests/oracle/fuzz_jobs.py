@@ -20,6 +20,7 @@ ODD_VALUES = ['""', "0", "-1", "17", "1.0", "true", "[]", "[0]", '["0"]', '["00"
 ODD_LINES = ["[[sender]]", "[sender]", "a.b = 1", '"key" = 1', "capacity = 2", "capacity = 0",
              "[a.b]", "[[a]]", "sender.x = 1", "sender = []", "#", "\r", "\x00", "é",
              "other = 1", "]"]
+SHARES = {"require_to": 0.2, "expect_time": 0.8}       # of senders whose flag is set, where it isn't half
 BATCHES = [1, 2, 2, 3, 4, 1000]
 WRONG_BATCHES = ["0", "1001", "-2", "2.0", "true", '"2"']
 
@@ -38,8 +39,7 @@ def session(dice):
     return opener.Session(
         key=dice.randbytes(dice.choice([16, 32])), mode=dice.choice(["safe", "priv"]),
         first=dice.choice(NUMBERS), origin=address(dice), to=address(dice),
-        write_to=dice.random() < 0.5, require_to=dice.random() < 0.2,
-        expect_time=dice.random() < 0.8, skew=dice.choice([0, 1, 300, 86_400]))
+        **{flag: dice.random() < SHARES.get(flag, 0.5) for flag in jobs.FLAGS}, skew=dice.choice([0, 1, 300, 86_400]))
 
 
 def sender(dice, most):

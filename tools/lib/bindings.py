@@ -25,11 +25,9 @@ def unpacked(tarball, folder):
         return os.path.join(folder, tar.getnames()[0].split("/")[0])
 
 
-def tarball(words, folder):
-    """The library's tarball: the one that is named after --tarball, else one that is made."""
-    if words[:1] == ["--tarball"]:
-        return os.path.abspath(words[1])
-    return scripts.load("c/dist").write(folder)
+def tarball(path, folder):
+    """The library's tarball: the one that is named, or one that is made."""
+    return os.path.abspath(path) if path else scripts.load("c/dist").write(folder)
 
 
 def take(sources, folder):

@@ -1,5 +1,5 @@
 """The checks of a job, in the program's order, each with the place of what it refuses, what stands
-there, and what may stand there. `krbrelay relay --help` describes the keys.
+there, and what may stand there. tables/job_keys.toml has the keys, and what their values are.
 
 It shares nothing with the crates; tests/fuzz compares its answers with those of the program. Of a
 key and of a seed it says how long they are, and not what they are.
@@ -7,8 +7,10 @@ key and of a seed it says how long they are, and not what they are.
 import dataclasses
 import difflib
 import re
+import tomllib
 
 from lib import toml_reader
+from lib.build import building
 from lib.picture import relayed
 
 # tables/limits.toml: limits, by tools/tables
@@ -25,9 +27,8 @@ SKEW_LIMIT = 86_400
 LAST_NUMBER = 4_294_967_295
 # end of limits
 LAST_MOMENT = 253_402_300_799_999_999
-KEY_SIZES, SEED_SIZE = {17: 16, 18: 32}, 32
+KEY_SIZES = {17: 16, 18: 32}
 MOST_SENDERS = {"seal": 1, "open": 1, "relay": LANE_LIMIT}
-TOP_KEYS = ("capacity", "sender")
 DECIMAL = r"(?:0|[1-9][0-9]*)"
 ADDRESS = re.compile(rf"(-?{DECIMAL}):(.*)", re.S)
 FLIP = re.compile(rf"flip ({DECIMAL}) ({DECIMAL}) ([0-9A-Fa-f]{{2}})")
@@ -35,7 +36,8 @@ FRAME = re.compile(DECIMAL)
 NOT_HEX = re.compile(r"[^0-9A-Fa-f]")
 EMISSION = ('a frame by its number, as "0", the same with a byte changed, as "flip 0 9 01", or'
             ' bytes, as "raw 74"')
-SEALING = ("seal", "relay")
+TABLE = tomllib.loads(building.text_of("tables/job_keys.toml"))
+TOP, KEYS = TABLE["job"], TABLE["sender"]
 
 
 class Wrong(Exception):
@@ -171,30 +173,23 @@ def plan(item):
         emission(it)
 
 
-# ---- the keys of a sender, in the order of the checks: whose they are, and how each is checked
+# ---- the keys
 
-NEEDED, OPTIONAL = True, False
-ALL = tuple(MOST_SENDERS)
-KEYS = {
-    "etype": (ALL, NEEDED, etype),
-    "key": (ALL, NEEDED, None),
-    "mode": (ALL, NEEDED, mode),
-    "first": (ALL, NEEDED, lambda it: whole(it, 0, LAST_NUMBER)),
-    "from": (ALL, NEEDED, address),
-    "to": (ALL, NEEDED, address),
-    "write_to": (ALL, OPTIONAL, flag),
-    "require_to": (ALL, OPTIONAL, flag),
-    "expect_time": (ALL, OPTIONAL, flag),
-    "skew": (ALL, NEEDED, lambda it: whole(it, 0, SKEW_LIMIT, f"seconds, 0 to {SKEW_LIMIT}")),
-    "seed": (SEALING, NEEDED, lambda it: hexadecimal(
-        it, SEED_SIZE, SEED_SIZE, f"{SEED_SIZE} bytes as hexadecimal digits")),
-    "at": (SEALING, NEEDED, moments),
-    "now": (ALL, NEEDED, moments),
-    "texts": (SEALING, NEEDED, lambda it: byte_strings(it, TEXTS_LIMIT, TEXT_LIMIT, "texts")),
-    "batch": (SEALING, OPTIONAL, lambda it: whole(it, 1, BATCH_LIMIT)),
-    "plan": (SEALING, OPTIONAL, plan),
-    "frames": (("open",), NEEDED, lambda it: byte_strings(it, ENTRIES_LIMIT, RAW_LIMIT, "frames")),
+# How a value of each kind is checked, between its bounds if it has any. That of a key is also compared with
+# others.
+KINDS = {
+    "etype": etype, "mode": mode, "address": address, "flag": flag, "moments": moments, "plan": plan, "whole": whole,
+    "seconds": lambda it, low, high: whole(it, low, high, f"seconds, {low} to {high}"),
+    "digits": lambda it, low, high: hexadecimal(it, low, high, f"{high} bytes as hexadecimal digits"),
+    "texts": lambda it: byte_strings(it, TEXTS_LIMIT, TEXT_LIMIT, "texts"),
+    "frames": lambda it: byte_strings(it, ENTRIES_LIMIT, RAW_LIMIT, "frames"),
 }
+
+
+def check_value(row, item):
+    """A value of a key by its row of the table."""
+    bounds = [globals().get(row[it], row[it]) for it in ("least", "most") if it in row]
+    KINDS[row["kind"]](item, *bounds)
 
 
 def unknown_key(entries, known, whose):
@@ -209,18 +204,18 @@ def unknown_key(entries, known, whose):
 
 def check_key(name, sender, command, keys):
     """One key of a sender, after those before it."""
-    commands, needed, check = KEYS[name]
-    entry = sender.value.get(name)
-    if entry and command not in commands:
+    row, entry = KEYS[name], sender.value.get(name)
+    has_key = command in row.get("commands", MOST_SENDERS)
+    if entry and not has_key:
         raise Wrong(entry.at, f"the key {name}", f"nothing: {command} has no such key")
-    if not entry and needed and command in commands:
+    if not entry and has_key and "default" not in row:
         raise Wrong(sender.at, f"a sender without {name}", f"a sender with {name}")
     if not entry:
         return
-    if name == "key":
+    if row["kind"] == "key":
         keys.append(key(entry.item, KEY_SIZES[sender.value["etype"].item.value], keys))
     else:
-        check(entry.item)
+        check_value(row, entry.item)
 
 
 # ---- plans
@@ -314,10 +309,11 @@ def senders_of(table, command):
 
 def checks(table, command):
     """Each check in its order: what the program calls it, and a function that makes it."""
-    if "capacity" in table.value:
-        yield "capacity", lambda: whole(table.value["capacity"].item, 1, CAPACITY_LIMIT)
+    for name in TOP:
+        if name in table.value:
+            yield name, lambda: check_value(TOP[name], table.value[name].item)
     yield "sender", lambda: senders_of(table, command)
-    yield "unknown key", lambda: unknown_key(table.value, TOP_KEYS, "the top keys of a job")
+    yield "unknown key", lambda: unknown_key(table.value, (*TOP, "sender"), "the top keys of a job")
     keys, senders = [], table.value["sender"].item.value
     for place, sender in enumerate(senders):
         for name in KEYS:

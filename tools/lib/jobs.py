@@ -12,14 +12,19 @@ class Session:
     first: int
     origin: tuple
     to: tuple
+    # job_keys.toml: flags
     write_to: bool = False
     require_to: bool = False
     expect_time: bool = True
+    # end of flags
     skew: int = 300
 
     @property
     def etype(self):
         return 17 if len(self.key) == 16 else 18
+
+
+FLAGS = [it.name for it in dataclasses.fields(Session) if isinstance(it.default, bool)]
 
 
 def session(etype, mode, key, first=7):
@@ -56,9 +61,7 @@ def sender(of, now=MICROS, texts=None, frames=None, at=MICROS, seed=bytes(32), b
     """The table of a session, with texts to be sealed or with frames to be opened, or with both."""
     lines = ["[[sender]]", f"etype = {of.etype}", f'key = "{of.key.hex()}"', f'mode = "{of.mode}"',
              f"first = {of.first}", f'from = "{address(of.origin)}"', f'to = "{address(of.to)}"',
-             f"write_to = {str(of.write_to).lower()}", f"require_to = {str(of.require_to).lower()}",
-             f"expect_time = {str(of.expect_time).lower()}", f"skew = {of.skew}",
-             f"now = {moments(now)}"]
+             *(f"{it} = {str(getattr(of, it)).lower()}" for it in FLAGS), f"skew = {of.skew}", f"now = {moments(now)}"]
     if texts is not None:
         lines += [f'seed = "{seed.hex()}"', f"at = {moments(at)}", f"texts = {digits(texts)}"]
     if batch is not None:

@@ -10,6 +10,7 @@ from lib import scripts
 from lib.build import building, c_tools, unproved
 
 TO_ANSWER = 60         # seconds for a tool to say whether it is there
+SHARES = 4             # runs in which --quick has the cases of the program: one of all would end long after the others
 
 PROGRAM = "a program that is built from these sources"
 UNPROVED = "one that is built from them without its proofs"
@@ -118,7 +119,7 @@ PARTS = [
     Part("python/test", 20, (COMPILER, CRYPTOGRAPHY), LIBRARY.command, over=()),
     Part("tools/quotes", 1, over=()),
     Part("tools/reference --check", 1, over=()),
-    Part("tools/test_reference", 1, over=()),
+    Part("pytest tests/test_reference.py", 1, (PYTEST,), over=()),
     Part("pytest tests/test_tables.py", 1, (PYTEST,), over=()),
     Part("pytest tests/test_tools.py", 2, (PYTEST, COMPILER, CRYPTOGRAPHY), over=()),
     Part("pytest tests/test_release.py", 1, (PYTEST,), over=()),
@@ -129,16 +130,16 @@ PARTS = [
     Part("pytest carrier/tests/test_left.py", 5, (PYTEST, "rt", COMPILER, CRYPTOGRAPHY, MAKE, SQLITE), LIBRARY.command, over=()),
     Part("pytest carrier/tests/test_simulation.py", 1, (PYTEST,), over=()),
     Part("pytest carrier/tests/test_simulation_proved.py", 2, (PYTEST, "rt", COMPILER, MAKE), LIBRARY.command, over=()),
-    Part("tests/job_check", 1, (CRYPTOGRAPHY,), over=()),
+    Part("pytest tests/test_job_check.py", 1, (PYTEST, CRYPTOGRAPHY), over=()),
     Part("tests/vector_tables.py --check", 1, over=()),
-    Part("tools/test_building", 5, (COMPILER, CRYPTOGRAPHY), over=()),
-    Part("tools/test_parts", 10, (COMPILER, CRYPTOGRAPHY, MAKE, SQLITE), over=()),
-    Part("tools/test_picture", 2, over=()),
+    Part("pytest tests/test_building.py", 10, (PYTEST, COMPILER, CRYPTOGRAPHY), over=()),
+    Part("pytest tests/test_parts.py", 10, (PYTEST, COMPILER, CRYPTOGRAPHY, MAKE, SQLITE), over=()),
+    Part("pytest tests/test_picture.py", 2, (PYTEST,), over=()),
     Part("tools/figure --check", 1, over=()),
     Part("tools/picture --check", 1, (PROGRAM,)),
     Part("pytest tests/test_program.py", 3, (PROGRAM, COMPILER, PYTEST)),
     Part("pytest tests/test_show.py", 2, (PROGRAM, COMPILER, CRYPTOGRAPHY, PYTEST), LIBRARY.command),
-    Part("tests/install", 1, (PROGRAM,)),
+    Part("pytest tests/test_install.py", 1, (PROGRAM, PYTEST)),
     Part("tests/sweep", 10, (PROGRAM, COMPILER, CRYPTOGRAPHY)),
     Part("tests/job_costs --check", 5, (PROGRAM,)),
     Part("tests/residue --program", 5, (PROGRAM, COMPILER, CRYPTOGRAPHY)),
@@ -149,7 +150,7 @@ PARTS = [
     Part("carrier/test --files", 10, (PROGRAM, "rt", COMPILER, MAKE, SQLITE), LIBRARY.command),
     Part("tests/fuzz 2000", 5, (PROGRAM, CRYPTOGRAPHY)),
     Part("conformance/test", 5, (PROGRAM, COMPILER, CRYPTOGRAPHY), LIBRARY.command),
-    Part("tools/test_bench", 30, ("rt",)),
+    Part("pytest tests/test_bench.py", 30, ("rt", PYTEST)),
     Part("tests/secret_places", 60, ("rt", COMPILER, "valgrind"), over=("krb_seal",)),
     Part("tests/secret_places --library", 20, ("rt", COMPILER, MAKE, "valgrind"), LIBRARY.command,
          over=()),
@@ -176,21 +177,29 @@ MORE = [
     Part("carrier/test --all", 60, (PROGRAM, "rt", COMPILER, "clang", MAKE, SQLITE, SERVERS,
                                        MIT, REALM)),
 ]
-# Those of --quick: the first builds the program that the others run, without its proofs.
+# Those of --quick: the first builds the program that some of the others run, without its proofs.
 BUILD_UNPROVED = Part("tools/krbrelay --unproved", 10, ("rt",))
+
+
+def over_unproved(command, minutes, *needs):
+    return Part(command, minutes, (UNPROVED, *needs), BUILD_UNPROVED.command)
+
+
 QUICK = [
+    BUILD_UNPROVED,
     Part("tools/quotes", 1),
     Part("pytest tests/test_tables.py", 1, (PYTEST,)),
     Part("tools/tables --check", 1),
     Part("pytest carrier/tests/test_statements.py", 1, (PYTEST,)),
     Part("pytest carrier/tests/test_simulation.py", 1, (PYTEST,)),
-    Part("tests/job_check", 1, (CRYPTOGRAPHY,)),
+    Part("pytest tests/test_job_check.py", 1, (PYTEST, CRYPTOGRAPHY)),
     Part("conformance/test --quick", 3, (CRYPTOGRAPHY,)),
-    Part("tools/picture --quick", 1, (UNPROVED,)),
-    Part("tests/redelivery --quick", 4, (UNPROVED, CRYPTOGRAPHY)),
-    Part("tests/install --quick", 1, (UNPROVED,)),
-    Part("tests/fuzz --quick 300", 5, (UNPROVED, CRYPTOGRAPHY)),
-    Part("pytest --quick tests/test_program.py", 6, (UNPROVED, COMPILER, PYTEST)),
+    over_unproved("tools/picture --quick", 1),
+    over_unproved("tests/redelivery --quick", 4, CRYPTOGRAPHY),
+    over_unproved("pytest --quick tests/test_install.py", 1, PYTEST),
+    over_unproved("tests/fuzz --quick 300", 5, CRYPTOGRAPHY),
+    *(over_unproved(f"pytest --quick --share {it}/{SHARES} tests/test_program.py", 6, COMPILER, PYTEST)
+      for it in range(1, SHARES + 1)),
 ]
 
 

@@ -1,3 +1,4 @@
+/* Cases of frames of the independent sealer: authentic ones that are malformed within, and those at limits. */
 #include "cases.h"
 
 #include <stdio.h>

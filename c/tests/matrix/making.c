@@ -1,3 +1,4 @@
+/* Cases of the calls that make a handle. */
 #include "cases.h"
 
 #include <string.h>

@@ -1,3 +1,4 @@
+/* Cases of the calls that open a message. */
 #include "cases.h"
 #include "session.h"
 

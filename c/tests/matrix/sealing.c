@@ -1,3 +1,4 @@
+/* Cases of the calls that seal, and the changes that others share. */
 #include "cases.h"
 
 #include <string.h>

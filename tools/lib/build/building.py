@@ -67,9 +67,9 @@ def krbrelay(program=None):
     return proved("krbrelay", program)
 
 
-def bench(program=None):
-    """The program of the benchmarks, likewise."""
-    return proved("krb_bench", program)
+def bench():
+    """The program of the benchmarks, which is proved and built first if needed."""
+    return proved("krb_bench")
 
 
 def proved(crate, program=None):

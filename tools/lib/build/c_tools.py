@@ -54,11 +54,11 @@ def program(folder, *source):
     return built
 
 
-def c_library(words, folder):
-    """Where libkrbrelay is installed: at the prefix that is named, or in a new folder, for which it
+def c_library(prefix, folder):
+    """Where libkrbrelay is installed: at the prefix, or if that is None in a new folder, for which it
     is built. The tool ends if it can't be built."""
-    if words:
-        return os.path.abspath(words[0])
+    if prefix:
+        return os.path.abspath(prefix)
     prefix = os.path.join(folder, "prefix")
     done = subprocess.run([os.path.join(building.TOP, "c", "library"), "--install", prefix],
                           check=False, stdout=subprocess.PIPE, stderr=subprocess.STDOUT, text=True)

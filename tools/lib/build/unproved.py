@@ -27,7 +27,6 @@ NOT_KEPT = "the kit's program wasn't kept"
 # What the program shows while it is linked: it takes some two seconds, so that a busy machine doesn't
 # miss the moment in which it is there.
 SHOWN = 5000 * "75193017a003020105a103020115a30b3009a003020111a2020400\n"
-QUICK = "--quick"       # the first word of a tool that is to take this program
 SLOWER = 500            # times the time of the proved program, as a job of 5 MB was measured
 
 
@@ -180,12 +179,12 @@ def run(words):
 
 # ---- for the tools
 
-def chosen(words):
-    """The program that a tool takes, and its other words: after `--quick` the one that is built
-    without its proofs, which is said in a line, else the proved one. It is built first if needed."""
-    if words[:1] != [QUICK]:
-        return building.krbrelay(), words
+def chosen(is_quick):
+    """The program that a tool takes: if it is to be quick the one that is built without its proofs,
+    which is said in a line, else the proved one. It is built first if needed."""
+    if not is_quick:
+        return building.krbrelay()
     if ensure() or not os.path.exists(PROGRAM):
         sys.exit("there is no program krbrelay that was built without its proofs")
     print("over a program that was built without its proofs", flush=True)
-    return PROGRAM, words[1:]
+    return PROGRAM

@@ -12,6 +12,8 @@ from lib.plants.copies import Copy
 Told = tuple[bool, str]
 WRAPS = ["-Wl,--wrap=malloc", "-Wl,--wrap=realloc", "-Wl,--wrap=free"]
 LINKED = {"calls": ["-Wl,--wrap=clock_gettime", "-Wl,--wrap=getrandom"], "residue": WRAPS[2:]}
+MOST_TOLD = 400     # wrong cases, after which the matrix ends
+OF_A_TEST = 60      # seconds, as `rt ci` gives each test of a crate
 OF_32_BITS = ["-m32", "-ffreestanding", "-nostdlib", "-static", "-fno-pic", "-no-pie", "-fno-stack-protector"]
 
 
@@ -29,11 +31,11 @@ def secrets_of(copy: Copy) -> list[str]:
 def matrix(copy: Copy) -> Told:
     folder = f"{copy.top}/c/tests/matrix"
     program = copy.compiled("matrix", sorted(f"{folder}/{it}" for it in os.listdir(folder)
-                                             if it.endswith(".c")), *WRAPS, "-DMOST_TOLD=1")
+                                             if it.endswith(".c")), *WRAPS, f"-DMOST_TOLD={MOST_TOLD}")
     made, said = copy.run(["python3", f"{copy.top}/c/tests/inside.py", "inside.bin"])
     if not made:
         return made, said
-    return copy.run([program, f"{copy.top}/c/krbrelay.h", "inside.bin", *secrets_of(copy), "-"])
+    return copy.run([program, f"{copy.top}/c/krbrelay.h", "inside.bin", *secrets_of(copy), "-"], most=1_000_000)
 
 
 def inline(copy: Copy) -> Told:
@@ -78,7 +80,8 @@ def signatures(copy: Copy) -> Told:
 def c_test(copy: Copy, name: str) -> Told:
     if name in OF_C:
         return OF_C[name](copy)
-    words = {"dead_stack": secrets_of(copy), "fuzz": ["20000"], "sequences": ["200000"]}
+    words = {"dead_stack": secrets_of(copy), "fuzz": ["20000"], "sequences": ["200000"],
+             "processor": ["unsupported", "told"]}
     return c_program(copy, name, *words.get(name, ()))
 
 
@@ -121,6 +124,7 @@ OF_PACKAGE = {"rust": ("tests/frames.txt", ["cargo", "test", "--offline", "--fea
 
 def package(copy: Copy, room: str) -> Told:
     frames, words = OF_PACKAGE[room]
+    copy.commit()
     place = f"{copy.top}/{room}/{frames}"
     os.makedirs(os.path.dirname(place), exist_ok=True)
     with open(place, "w", encoding="utf-8") as file:
@@ -136,16 +140,25 @@ OF_PLANTS = "tests/test_tools.py::test_a_plant_applies_and_names_checks"
 
 
 def tool(copy: Copy, what: str) -> Told:
+    copy.commit()
     return copy.run({"self": ["pytest", "-q", "-x", "--deselect", OF_PLANTS, "tests/test_tools.py"],
                      "tables": ["pytest", "-q", "-x", "tests/test_tables.py"],
                      "verdicts": ["pytest", "-q", "-x", "-k", "verdict", "tests/test_release.py"],
-                     "test_building": ["tools/test_building"], "test_parts": ["tools/test_parts"],
+                     "test_building": ["pytest", "-q", "-x", "tests/test_building.py"],
+                     "test_parts": ["pytest", "-q", "-x", "tests/test_parts.py"],
                      "conformance": ["conformance/test", "--quick"]}[what], cwd=copy.top)
 
 
 def crate(copy: Copy, name: str) -> Told:
-    """The tests of a crate, without proofs."""
-    return copy.run(["rt", "try", "--test", "--seconds", "300"], cwd=f"{copy.top}/crates/{name}")
+    """The tests of a crate, without proofs. Each has the time that it has in the gate."""
+    program = copy.tests(name)
+    listed, said = copy.run([program, "--list"], most=1_000_000)
+    names = [line.removesuffix(": test") for line in said.splitlines() if line.endswith(": test")]
+    for test in names:
+        passed, said = copy.run([program, test], seconds=OF_A_TEST)
+        if not passed:
+            return False, f"FAILED {test}: {said}"
+    return listed and bool(names), said
 
 
 def sweep(copy: Copy, name: str) -> Told:
@@ -170,6 +183,7 @@ def prover(copy: Copy, name: str, function: str) -> Told:
     """Whether the prover takes a crate, of which this function is changed. What it has kept of the crates
     below is not proved again. The crate is laid out before, since `rt ci` refuses another layout too: it
     is a goal of the function at which it has to refuse."""
+    copy.commit()
     copy.run(["rt", "fmt"], cwd=f"{copy.top}/crates/{name}")
     proved, said = copy.run(["rt", "ci", name], cwd=copy.top, most=1_000_000)
     goals = goals_of(said, name, function)
@@ -188,8 +202,8 @@ def run(copy: Copy, check: str) -> Told:
     return CHECKS[kind](copy, *words)
 
 
-def last_words(said: str) -> str:
-    """The first line that tells a fault, or the last line."""
+def last_words(said: str, says: str = "") -> str:
+    """The first line that tells a fault, and what it has to, or the last line."""
     lines = [it.strip() for it in said.splitlines() if it.strip() and not it.startswith("time=")]
-    told = [it for it in lines if re.search(r"not so|FAILED|wrong|error|differs", it)]
+    told = [it for it in lines if re.search(says or r"not so|FAILED|wrong|error|differs", it)]
     return (told or lines or [""])[0][:150]

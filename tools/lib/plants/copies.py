@@ -1,12 +1,14 @@
 """A copy of the repository in which a fault may be planted, and what is built of it without proofs."""
+import contextlib
 import functools
 import os
 import shutil
+import signal
 import subprocess
 import tempfile
 import threading
 
-from lib.build import building, c_tools, without_proofs
+from lib.build import building, c_tools, family, without_proofs
 from lib.plants import planted, wrapped
 
 LIBRARY = without_proofs.LIBRARY
@@ -53,34 +55,61 @@ def program_of_sources(crate: str, *words: str) -> str:
     return made
 
 
+def copied(top: str) -> None:
+    """Copies the repository's files."""
+    for name in committed():
+        place = os.path.join(top, name)
+        os.makedirs(os.path.dirname(place), exist_ok=True)
+        shutil.copy(os.path.join(building.TOP, name), place)
+
+
+def unchanged() -> str:
+    """One copy for all plants that change no file, in which checks change none."""
+    top = os.path.join(ROOM.name, "copy")
+    with ONE:
+        if not os.path.exists(top):
+            copied(top)
+    return top
+
+
 class Copy:
-    """A copy with a plant, or with none."""
+    """A copy with a plant, or with none. Plants that change no file share one."""
 
     def __init__(self, folder: str, plant: planted.Plant | None = None):
-        self.top, self.folder = os.path.join(folder, "copy"), folder
+        self.folder = folder
         self.wraps = plant.wraps if plant else ()
         self.changes_crates = any(it.startswith("crates/") for it in plant.files()) if plant else False
-        for name in committed():
-            place = os.path.join(self.top, name)
-            os.makedirs(os.path.dirname(place), exist_ok=True)
-            shutil.copy(os.path.join(building.TOP, name), place)
-        for words in ("init -q", "add -A", "commit -qm copy"):      # some tests ask for the commit, or what is in it
-            subprocess.run(["git", "-C", self.top, *AUTHOR, *words.split()], check=True)
+        self.is_shared = plant is not None and not plant.edits
+        if self.is_shared:
+            self.top = unchanged()
+            return
+        self.top = self.place("copy")
+        copied(self.top)
         for edit in plant.edits if plant else ():
             planted.make(edit, self.top)
+
+    def commit(self) -> None:
+        """Makes a repository of it: some tests ask for the commit, or what is in it."""
+        for words in ("init -q", "add -A", "commit -qm copy"):
+            subprocess.run(["git", "-C", self.top, *AUTHOR, *words.split()], check=True)
 
     def place(self, name: str) -> str:
         return os.path.join(self.folder, name)
 
-    def run(self, words: list, most: int = 3000, **how) -> tuple[bool, str]:
-        """Whether a command ends with 0, and the end of what it said."""
+    def run(self, words: list, most: int = 3000, seconds: int = SECONDS, **how) -> tuple[bool, str]:
+        """Whether a command ends with 0 in so many seconds, and the end of what it said."""
         how.setdefault("cwd", self.folder)
-        try:
-            done = subprocess.run(words, stdin=subprocess.DEVNULL, stdout=subprocess.PIPE, check=False,
-                                  stderr=subprocess.STDOUT, timeout=SECONDS, **how)
-        except subprocess.TimeoutExpired:
-            return False, f"not at its end after {SECONDS} seconds"
-        return done.returncode == 0, done.stdout.decode(errors="replace")[-most:]
+        with subprocess.Popen(words, stdin=subprocess.DEVNULL, stdout=subprocess.PIPE,
+                              stderr=subprocess.STDOUT, **how) as ran:
+            try:
+                said, _ = ran.communicate(timeout=seconds)
+            except subprocess.TimeoutExpired:
+                for number in (*family.below(ran.pid), ran.pid):
+                    with contextlib.suppress(ProcessLookupError):
+                        os.kill(number, signal.SIGKILL)
+                return False, f"not at its end after {seconds} seconds"
+        ended = f"\nended by signal {-ran.returncode}" if ran.returncode < 0 else ""
+        return ran.returncode == 0, said.decode(errors="replace")[-most:] + ended
 
     def is_of_proved_code(self) -> bool:
         """Whether the library has the proved code, if with a function around a call of it."""
@@ -138,8 +167,19 @@ class Copy:
     def compiled(self, name: str, sources: list[str], *words: str) -> str:
         """A C program over the library."""
         made = self.place(name)
+        if self.is_shared:
+            sources = [self.compiled_once(it, *words) for it in sources]
         done, said = self.run([*c_tools.c_compiler(), *FLAGS, f"-I{self.top}/c", f"-I{self.top}/c/tests",
                                *sources, f"{self.library}/libkrbrelay.a", *words, "-o", made])
         if not done:
             raise without_proofs.NotCompiled(said)
+        return made
+
+    def compiled_once(self, source: str, *words: str) -> str:
+        """The object of a source that no plant changes."""
+        made = f"{source}.o"
+        with ONE:
+            if not os.path.exists(made):
+                without_proofs.run([*c_tools.c_compiler(), *FLAGS, f"-I{self.top}/c", f"-I{self.top}/c/tests",
+                                    *(it for it in words if it.startswith("-D")), "-c", source, "-o", made])
         return made

@@ -7,7 +7,8 @@ from collections.abc import Callable
 from lib.build import building
 
 TABLES = ("tests/plants.toml", "tests/wrapped_plants.toml", "tests/package_plants.toml",
-          "tests/carrier_plants.toml", "tests/tool_plants.toml", "tests/two_fault_plants.toml")
+          "tests/carrier_plants.toml", "tests/tool_plants.toml", "tests/two_fault_plants.toml",
+          "tests/beside_plants.toml")
 
 
 class NoPlant(Exception):
@@ -21,6 +22,7 @@ class Plant:
     checks: tuple       # those that have to see it, by their names in checks.py
     edits: tuple        # of each a file, what stands in it once, and what stands there then
     wraps: tuple = ()   # a call of the library, and what a function around it does before and after it
+    says: str = ""      # what the check has to say, where it may also fail for another reason: a regular expression
 
     def files(self) -> set[str]:
         return {edit[0] for edit in self.edits}
@@ -35,7 +37,8 @@ def all_plants() -> dict[str, Plant]:
     for table in TABLES:
         with open(os.path.join(building.TOP, table), "rb") as file:
             rows |= tomllib.load(file)
-    plants = {name: Plant(name, row["harm"], tuple(row["by"]), tuple(map(tuple, row.get("edits", ()))), around(row))
+    plants = {name: Plant(name, row["harm"], tuple(row["by"]), tuple(map(tuple, row.get("edits", ()))), around(row),
+                           row.get("says", ""))
               for name, row in rows.items()}
     idle = [it.name for it in plants.values() if not (it.edits or it.wraps) or not it.checks]
     if idle:

@@ -1,18 +1,11 @@
-#!/usr/bin/env python3
-"""Runs the benchmarks a little: which lines they print, and the statuses that they end with.
-
-    tools/test_bench [PROGRAM]
-
-Without PROGRAM the one in crates/krb_bench/out is taken, which is proved and built first if needed.
-Another file has to be that program, byte for byte: one that isn't proved is refused. How fast
-anything is isn't looked at. The last line is 'N passed, N failed'.
-"""
+"""Runs the benchmarks a little: which lines they print, and the statuses that they end with. How fast anything is
+isn't looked at."""
 import itertools
 import re
 import subprocess
-import sys
 
-from lib import report, usage
+import pytest
+
 from lib.build import building
 
 LIMIT = 120     # seconds for a run
@@ -46,27 +39,19 @@ NO_RELAYS = ["lane 20 0 0", "lane 20 65 0", "relay 1 0 6 64 2", "relay 1 9 6 64 
              "relay 1 2 6 64 0", "relay 1 1 1 1000001 1"]
 
 
-def main():
-    program = building.bench(*sys.argv[1:2])
-    count = report.Count()
-
-    def check(words, status, lines, told=""):
-        done = subprocess.run([program, *words.split()], stdin=subprocess.DEVNULL, check=False,
-                              capture_output=True, text=True, timeout=LIMIT)
-        right = (done.returncode == status and done.stderr == told
-                 and re.fullmatch("".join(f"{line}\n" for line in lines), done.stdout) is not None)
-        count.right(right, f"FAILED krb_bench {words}: status {done.returncode},"
-                           f" {done.stdout!r:.400}, {done.stderr!r:.200}")
-
-    check("", 0, [])
-    for words, lines in LINES.items():
-        check(words, 0, lines)
-    for words in NOT_ITS_WORDS:
-        check(words, 2, [], USAGE)
-    for words in NO_RELAYS:
-        check(words, 1, [".*"])
-    return count.end()
+RUNS = [("", 0, [], ""), *((words, 0, lines, "") for words, lines in LINES.items()),
+        *((words, 2, [], USAGE) for words in NOT_ITS_WORDS), *((words, 1, [".*"], "") for words in NO_RELAYS)]
 
 
-usage.answer(__doc__)
-sys.exit(main())
+@pytest.fixture(scope="module")
+def krb_bench():
+    """The program, which is proved and built first if needed."""
+    return building.bench()
+
+
+@pytest.mark.parametrize("words, status, lines, told", RUNS, ids=[f"krb_bench {it[0]}" for it in RUNS])
+def test_run(krb_bench, words, status, lines, told):
+    done = subprocess.run([krb_bench, *words.split()], stdin=subprocess.DEVNULL, check=False, capture_output=True,
+                          text=True, timeout=LIMIT)
+    assert (done.returncode, done.stderr) == (status, told)
+    assert re.fullmatch("".join(f"{line}\n" for line in lines), done.stdout)

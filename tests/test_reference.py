@@ -1,16 +1,9 @@
-#!/usr/bin/env python3
 """Tests what the reference is made of: how sources are read, what their words stand for, and how a
-page is written.
-
-    tools/test_reference
-
-The sources are written out here, and no program runs. The last line is 'N passed, M failed'.
-"""
+page is written. The sources are written out here, and no program runs."""
 import html.parser
 import os
-import sys
 
-from lib import report, scripts, usage
+from lib import scripts
 from lib.build import building
 from lib.reference import pages, pages_html, pages_markdown, promises, sources
 from lib.reference.sources import Ref
@@ -140,72 +133,65 @@ module _ {F : Type 0} where
 
 # ---- reading
 
-def rust(t):
+def test_rust():
     file = sources.rust_file(RUST, "crates/low/src/crates.rt")
-    t.check("the doc of a file", file.doc == "What the crate is for.\n\nMore of it.")
-    t.check("its items", [(it.kind, it.name) for it in file.items] == [
-        ("struct", "Crate"), ("enum", "Kind"), ("trait", "Gate")])
-    t.check("its functions, but tests", [it.name for it in file.functions] == ["inside"],
-            not file.functions[0].is_public)
+    assert file.doc == "What the crate is for.\n\nMore of it.", "the doc of a file"
+    assert [(it.kind, it.name) for it in file.items] == [("struct", "Crate"), ("enum", "Kind"), ("trait", "Gate")], \
+        "its items"
+    assert [it.name for it in file.functions] == ["inside"] and not file.functions[0].is_public, \
+        "its functions, but tests"
     made = file.items[0]
-    t.check("a doc with signs of its own", made.doc.startswith("A box of bytes: `}`"),
-            made.doc.endswith("It holds {text}."))
-    t.check("public fields alone", "hidden" not in made.declaration, "count" in made.declaration,
-            "fits" in made.declaration, "// private fields" in made.declaration,
-            made.declaration.startswith("#[derive(Clone, Drop)]\npub struct"))
-    t.check("the fields of all", "hidden" in made.whole, "Two(Crate)" in file.items[1].declaration)
-    t.check("implementations", [(name, it.trait) for name, it in file.implementations] == [
-        ("Crate", "Model"), ("Crate", ""), ("Crate", "From")])
-    t.check("ghost members", [(it.name, it.text) for it in file.implementations[0][1].clauses] == [
-        ("Value", "Seen"), ("view", "λ c. seen c.count")],
-            file.items[2].clauses[0].text == "Self → Seen")
-    t.check("imports of an implementation",
-            file.implementations[0][1].scope.words["Seen"] == ("Rattle.low.specs.Rule", "Seen"),
-            "Seen" not in file.implementations[1][1].scope.words)
+    assert made.doc.startswith("A box of bytes: `}`") and made.doc.endswith("It holds {text}."), \
+        "a doc with signs of its own"
+    assert ("hidden" not in made.declaration and "count" in made.declaration and "fits" in made.declaration
+            and "// private fields" in made.declaration
+            and made.declaration.startswith("#[derive(Clone, Drop)]\npub struct")), "public fields alone"
+    assert "hidden" in made.whole and "Two(Crate)" in file.items[1].declaration, "the fields of all"
+    assert ([(name, it.trait) for name, it in file.implementations] == [
+        ("Crate", "Model"), ("Crate", ""), ("Crate", "From")]), "implementations"
+    assert ([(it.name, it.text) for it in file.implementations[0][1].clauses] == [
+        ("Value", "Seen"), ("view", "λ c. seen c.count")] and file.items[2].clauses[0].text == "Self → Seen"), \
+        "ghost members"
+    assert (file.implementations[0][1].scope.words["Seen"] == ("Rattle.low.specs.Rule", "Seen")
+            and "Seen" not in file.implementations[1][1].scope.words), "imports of an implementation"
 
 
-def contracts(t):
+def test_contracts():
     file = sources.rust_file(RUST, "crates/low/src/crates.rt")
     fill, private = file.implementations[1][1].functions
-    t.check("a signature ends where its contract begins", fill.signature.endswith("Fault>"),
-            fill.signature.startswith("pub fn fill<F: Fn(u32) -> u32>("), fill.is_public)
-    t.check("its clauses", [(it.kind, it.name) for it in fill.clauses] == [
-        ("requires", "few"), ("ensures", "kept"), ("ensures", "")])
-    t.check("a clause of two lines", fill.clauses[1].text ==
-            "OnErr result\n    (self.new ≡ self.old)")
-    t.check("a comment before a clause", not fill.clauses[0].comment,
-            fill.clauses[1].comment == "Where it fails nothing changes.")
-    t.check("no contract", private.clauses == [], private.signature == "fn private(&self)",
-            not private.is_public)
+    assert (fill.signature.endswith("Fault>") and fill.signature.startswith("pub fn fill<F: Fn(u32) -> u32>(")
+            and fill.is_public), "a signature ends where its contract begins"
+    assert ([(it.kind, it.name) for it in fill.clauses] == [
+        ("requires", "few"), ("ensures", "kept"), ("ensures", "")]), "its clauses"
+    assert fill.clauses[1].text == "OnErr result\n    (self.new ≡ self.old)", "a clause of two lines"
+    assert not fill.clauses[0].comment and fill.clauses[1].comment == "Where it fails nothing changes.", \
+        "a comment before a clause"
+    assert private.clauses == [] and private.signature == "fn private(&self)" and not private.is_public, "no contract"
     enter = file.items[2].functions[0]
-    t.check("a function of a trait", enter.is_public, enter.doc == "Enters.",
-            [it.text for it in enter.clauses] == ["lane ≤ the_limit"])
+    assert enter.is_public and enter.doc == "Enters." and [it.text for it in enter.clauses] == ["lane ≤ the_limit"], \
+        "a function of a trait"
 
 
-def definitions(t):
+def test_definitions():
     module = sources.antt_module(RULE, "low", "Rule", "crates/low/specs/Rule.antt")
     found = {it.ref.word: it for it in module.definitions}
-    t.check("all definitions", list(found) == [
-        "limit", "Seen", "double", "Keeps", "seen", "Item", "frames"])
-    t.check("comments", module.comment == "The rules (RFC 4120 section 5.2.4,\nUInt32).",
-            found["limit"].comment == "the bound", found["double"].comment == "",
-            found["frames"].comment == "the frames")
-    t.check("sources", pages.source_of(module.comment) == "RFC 4120 section 5.2.4",
-            pages.source_of("RFC 3961 sections 5.1 and 5.3; FIPS 197, section 4.2") ==
-            "RFC 3961 sections 5.1 and 5.3; FIPS 197 section 4.2", pages.source_of("x") == "")
-    t.check("a section of the file's standard",
-            pages.source_in("mixed (5.1.3)", "The cipher of FIPS 197, section 5.") ==
-            "FIPS 197 section 5.1.3", pages.source_in("(5.1)", "RFC 1, RFC 2") == "RFC 1; RFC 2",
-            pages.source_in("x", "y") == pages.OWN)
-    t.check("lines", found["limit"].lines() == 2, found["Seen"].lines() == 3,
-            found["frames"].lines() == 3)
-    t.check("what is bound isn't cited", "limit" not in found["double"].words,
-            "limit" not in found["seen"].words, "limit" not in found["Seen"].words,
-            "size" not in found["Keeps"].words)
-    t.check("what is cited", {"double", "limit", "more.IsBig", "kinds.One", "Seen"} <=
-            found["Keeps"].words, "the_end" in found["frames"].words)
-    t.check("constructors", module.makers == {"Frame": "Item", "End": "Item"})
-    t.check("text", found["frames"].text.startswith("abbrev pub frames : Item F → F\nframes ("))
+    assert list(found) == ["limit", "Seen", "double", "Keeps", "seen", "Item", "frames"], "all definitions"
+    assert (module.comment == "The rules (RFC 4120 section 5.2.4,\nUInt32)." and found["limit"].comment == "the bound"
+            and found["double"].comment == "" and found["frames"].comment == "the frames"), "comments"
+    assert (pages.source_of(module.comment) == "RFC 4120 section 5.2.4"
+            and pages.source_of("RFC 3961 sections 5.1 and 5.3; FIPS 197, section 4.2") ==
+            "RFC 3961 sections 5.1 and 5.3; FIPS 197 section 4.2" and pages.source_of("x") == ""), "sources"
+    assert (pages.source_in("mixed (5.1.3)", "The cipher of FIPS 197, section 5.") == "FIPS 197 section 5.1.3"
+            and pages.source_in("(5.1)", "RFC 1, RFC 2") == "RFC 1; RFC 2" and pages.source_in("x", "y") == pages.OWN), \
+        "a section of the file's standard"
+    assert found["limit"].lines() == 2 and found["Seen"].lines() == 3 and found["frames"].lines() == 3, "lines"
+    assert ("limit" not in found["double"].words and "limit" not in found["seen"].words
+            and "limit" not in found["Seen"].words and "size" not in found["Keeps"].words), \
+        "what is bound isn't cited"
+    assert ({"double", "limit", "more.IsBig", "kinds.One", "Seen"} <= found["Keeps"].words
+            and "the_end" in found["frames"].words), "what is cited"
+    assert module.makers == {"Frame": "Item", "End": "Item"}, "constructors"
+    assert found["frames"].text.startswith("abbrev pub frames : Item F → F\nframes ("), "text"
 
 
 # ---- what words stand for
@@ -224,33 +210,28 @@ def project():
     return sources.Project({"low": crate})
 
 
-def meanings(t):
+def test_meanings():
     made = project()
     scope = made.crates["low"].modules["Rule"].scope
-    t.check("a word of another module", made.meaning(scope, "more.IsBig") ==
-            Ref("low", "More", "IsBig"))
-    t.check("a variant is its type", made.meaning(scope, "kinds.One") ==
-            Ref("low", "", "Kind"))
-    t.check("a word of the kit", made.meaning(scope, "length") ==
-            Ref(sources.KIT, "Rattle.std.specs.Prelude", "length"))
-    t.check("a module that is passed on", made.at("Rattle.low.specs.Again", "limit") ==
-            Ref("low", "Rule", "limit"))
-    t.check("a constructor is its data", made.at("Rattle.low.specs.Rule", "Frame") ==
-            Ref("low", "Rule", "Item"))
-    t.check("what isn't there", made.at("Rattle.low.specs.Rule", "lost") is None,
-            made.at("Rattle.low.specs.Lost", "limit") is None)
+    assert made.meaning(scope, "more.IsBig") == Ref("low", "More", "IsBig"), "a word of another module"
+    assert made.meaning(scope, "kinds.One") == Ref("low", "", "Kind"), "a variant is its type"
+    assert made.meaning(scope, "length") == Ref(sources.KIT, "Rattle.std.specs.Prelude", "length"), \
+        "a word of the kit"
+    assert made.at("Rattle.low.specs.Again", "limit") == Ref("low", "Rule", "limit"), "a module that is passed on"
+    assert made.at("Rattle.low.specs.Rule", "Frame") == Ref("low", "Rule", "Item"), "a constructor is its data"
+    assert made.at("Rattle.low.specs.Rule", "lost") is None and made.at("Rattle.low.specs.Lost", "limit") is None, \
+        "what isn't there"
 
 
-def reached(t):
+def test_reached():
     made = project()
     graph = pages.Graph(made)
     found = graph.reached([Ref("low", "Rule", "Keeps")])
     words = [it.word for it in found if it.crate != sources.KIT]
-    t.check("what a definition reaches", words[0] == "Keeps",
-            {"double", "limit", "Seen", "IsBig", "Kind", "Crate"} <= set(words),
-            not {"frames", "Item"} & set(words), len(words) == len(set(words)))
-    t.check("a type is seen by its view", graph.of_item("low", made.crates["low"].items[
-        "Crate"]) == [Ref("low", "Rule", "Seen")])
+    assert (words[0] == "Keeps" and {"double", "limit", "Seen", "IsBig", "Kind", "Crate"} <= set(words)
+            and not {"frames", "Item"} & set(words) and len(words) == len(set(words))), "what a definition reaches"
+    assert graph.of_item("low", made.crates["low"].items["Crate"]) == [Ref("low", "Rule", "Seen")], \
+        "a type is seen by its view"
 
 
 # ---- pages
@@ -276,7 +257,7 @@ class Reader(html.parser.HTMLParser):
         self.right = self.right and bool(self.open) and self.open.pop() == tag
 
 
-def written(t):
+def test_written():
     links = {"Keeps": pages.Target("low", "specs.Rule.Keeps")}
     page = pages.Page("low", "low", [
         pages.Heading(2, "a_b", "ab"),
@@ -285,55 +266,51 @@ def written(t):
         pages.ClauseBlock("ensures", "", "", pages.Source("b <\n c", "", {}), [])])
     markdown = pages_markdown.Markdown(lambda target: f"crates/{target.page}/specs/Rule.antt")
     text = markdown.written(page)
-    t.check("Markdown", '<a id="ab"></a>\n\n## a\\_b\n' in text, "x \\< y\\_z `a|b`" in text,
-            '- <a id="f.kept"></a>**ensures** **`kept`**: `Keeps a`' in text,
-            "[`Keeps`](../../crates/low/specs/Rule.antt)" in text, "  ```\n  b <\n   c\n  ```" in text)
+    assert ('<a id="ab"></a>\n\n## a\\_b\n' in text and "x \\< y\\_z `a|b`" in text
+            and '- <a id="f.kept"></a>**ensures** **`kept`**: `Keeps a`' in text
+            and "[`Keeps`](../../crates/low/specs/Rule.antt)" in text and "  ```\n  b <\n   c\n  ```" in text), \
+        "Markdown"
     kind = pages.Target("low", "Kind")
-    t.check("a place is cited once", markdown.cited({"A": kind, "Kind": kind, "Two": kind}) ==
-            "[`Kind`](../../crates/low/specs/Rule.antt)", markdown.cited({"A": kind, "B": kind}) ==
-            "[`A`](../../crates/low/specs/Rule.antt)")
-    t.check("a page that is committed", markdown.address(pages.Target(pages.PROMISES, "low")) ==
-            "promises.md#low")
+    assert (markdown.cited({"A": kind, "Kind": kind, "Two": kind}) == "[`Kind`](../../crates/low/specs/Rule.antt)"
+            and markdown.cited({"A": kind, "B": kind}) == "[`A`](../../crates/low/specs/Rule.antt)"), \
+        "a place is cited once"
+    assert markdown.address(pages.Target(pages.PROMISES, "low")) == "promises.md#low", "a page that is committed"
     read = Reader(pages_html.written(page, [page]))
-    t.check("HTML", read.right, not read.open, {"ab", "f.kept"} <= read.anchors,
-            "low.html#specs.Rule.Keeps" in read.links)
+    assert (read.right and not read.open and {"ab", "f.kept"} <= read.anchors
+            and "low.html#specs.Rule.Keeps" in read.links), "HTML"
 
 
-def whole(t):
+def test_whole():
     """The pages of this repository."""
     project = sources.read_project()
     every = promises.all_pages(project)
     again = promises.all_pages(sources.read_project())
-    t.check("the same pages each time", every == again)
+    assert every == again, "the same pages each time"
     place = lambda page, anchor: pages.source_file(project, pages.Target(page, anchor))
-    t.check("where an item stands", place("krb_relay", "relay") == "crates/krb_relay/src/running.rt",
-            place("krb_seal", "Opener.unseal.opens") == "crates/krb_seal/src/opener.rt",
-            place("krb_peers", "specs.Planned.IsPaired") == "crates/krb_peers/specs/Planned.antt",
-            place("krb_lane", "") == "crates/krb_lane/src/lib.rt")
+    assert (place("krb_relay", "relay") == "crates/krb_relay/src/running.rt"
+            and place("krb_seal", "Opener.unseal.opens") == "crates/krb_seal/src/opener.rt"
+            and place("krb_peers", "specs.Planned.IsPaired") == "crates/krb_peers/specs/Planned.antt"
+            and place("krb_lane", "") == "crates/krb_lane/src/lib.rt"), "where an item stands"
     anchors = {it.name: set(it.anchors()) for it in every}
-    t.check("no anchor twice",
-            all(len(list(it.anchors())) == len(anchors[it.name]) for it in every))
-    t.check("clauses of relay", {"relay", "relay.whole", "relay.stopped"} <= anchors["krb_relay"])
-    t.check("what is shown of a lane", {"specs.Planned.Headline", "specs.Planned.IsPaired"} <=
-            anchors["krb_peers"])
-    t.check("what the headline reaches", {"krb_peers.Claims", "krb_peers.Attempt",
-                                          "krb_aes.Cipher"} <= anchors["headline"],
-            "krb_peers.Planned" not in anchors["headline"])
+    assert all(len(list(it.anchors())) == len(anchors[it.name]) for it in every), "no anchor twice"
+    assert {"relay", "relay.whole", "relay.stopped"} <= anchors["krb_relay"], "clauses of relay"
+    assert {"specs.Planned.Headline", "specs.Planned.IsPaired"} <= anchors["krb_peers"], "what is shown of a lane"
+    assert ({"krb_peers.Claims", "krb_peers.Attempt", "krb_aes.Cipher"} <= anchors["headline"]
+            and "krb_peers.Planned" not in anchors["headline"]), "what the headline reaches"
     made = pages_html.files_of(every)
     files = {name: Reader(text) for name, text in made.items() if name.endswith(".html")}
-    t.check("whole HTML", all(it.right and not it.open for it in files.values()))
+    assert all(it.right and not it.open for it in files.values()), "whole HTML"
     of_index = set(files[pages_html.NAMES].links)
-    t.check("all names are in the index", len(of_index) > 2000, all(
+    assert (len(of_index) > 2000
+            and all(
         f"{pages_html.file_of(page.name)}#{block.anchor}" in of_index for page in every
         for block in page.blocks if isinstance(block, pages.Heading) and block.is_code
-        and block.anchor or isinstance(block, pages.ClauseBlock) and block.anchor))
-    t.check("each page has the search and the index", all(
+        and block.anchor or isinstance(block, pages.ClauseBlock) and block.anchor)), "all names are in the index"
+    assert (all(
         it.links.count(pages_html.NAMES) == (1 if name == pages_html.NAMES else 2)
-        for name, it in files.items()))
-    t.check("nothing from elsewhere", not any(
-        "//" in it for page in files.values() for it in page.links if it))
-    t.check("no dead link", all(is_there(link, name, files) for name, it in files.items()
-                                for link in it.links))
+        for name, it in files.items())), "each page has the search and the index"
+    assert not any("//" in it for page in files.values() for it in page.links if it), "nothing from elsewhere"
+    assert all(is_there(link, name, files) for name, it in files.items() for link in it.links), "no dead link"
 
 
 def is_there(link, name, files):
@@ -372,7 +349,7 @@ def section(page, anchor):
     return found
 
 
-def walk(t):
+def test_walk():
     """From the contracts of the headline, each definition that they reach is found link by link."""
     writer = pages.Writer(sources.read_project())
     every = {it.name: it for it in [writer.crate(name) for name in writer.project.crates]}
@@ -385,10 +362,10 @@ def walk(t):
             near += [it for block in section(every[target.page], target.anchor)
                      for it in targets(block)]
     wanted = {writer.target(ref) for ref in writer.headline if writer.project.definition(ref)}
-    t.check("the walk from the headline", len(wanted) > 100, wanted <= seen)
+    assert len(wanted) > 100 and wanted <= seen, "the walk from the headline"
 
 
-def promised(t):
+def test_promised():
     """The page of promises has each clause of each crate that promises something, once."""
     every = promises.all_pages(sources.read_project())
     page = next(it for it in every if it.name == pages.PROMISES)
@@ -397,46 +374,33 @@ def promised(t):
     wanted = {pages.Target(it.name, block.anchor) for it in every[3:] for block in it.blocks
               if isinstance(block, pages.ClauseBlock) and block.anchor
               and block.kind in promises.STATED}
-    t.check("each clause is a promise", len(wanted) > 500, wanted <= set(linked),
-            all(linked.count(it) == 1 for it in list(wanted)[:50]))
+    assert len(wanted) > 500 and wanted <= set(linked) and all(linked.count(it) == 1 for it in list(wanted)[:50]), \
+        "each clause is a promise"
     kinds = {block.kind for it in every[3:] for block in it.blocks
              if isinstance(block, pages.ClauseBlock)}
-    t.check("the kinds of clauses", kinds <= {*promises.STATED, "requires"})
+    assert kinds <= {*promises.STATED, "requires"}, "the kinds of clauses"
     law = [entry for block in page.blocks if isinstance(block, pages.Listing)
            for entry in block.entries if entry[0].text == "frames_laws"]
-    t.check("a promise in a line", len(law) == 1, law[0][0].target.anchor == "frames_laws",
-            "The headline" in law[0][2].text, law[0][-2].text == "headline")
+    assert (len(law) == 1 and law[0][0].target.anchor == "frames_laws" and "The headline" in law[0][2].text
+            and law[0][-2].text == "headline"), "a promise in a line"
 
 
-def checks(t):
+def test_checks():
     """What `tools/reference --check` says of links."""
     made = scripts.load("reference")
     source, page = "crates/krb_peers/specs/Planned.antt", "docs/reference/headline.md"
     texts = {"docs/PROVED.md": "", page: '<a id="relay.whole"></a>\n\n## The `end` of it\n'}
     fault = lambda text, link: made.fault_of(text, link, "docs/PROVED.md", texts)
-    t.check("an anchor that is there", fault("`whole`", "reference/headline.md#relay.whole") is None,
-            fault("the end", "reference/headline.md#the-end-of-it") is None)
-    t.check("one that isn't", fault("`lost`", "reference/headline.md#relay.lost") is not None)
-    t.check("a name that the source has", fault("`IsPaired`", f"../{source}") is None,
-            fault("`specs.Planned.IsPaired`", f"../{source}") is None)
-    t.check("one that it doesn't have", fault("`IsPared`", f"../{source}") is not None,
-            fault("`IsPaired.lost`", f"../{source}") is not None)
-    t.check("the source itself", fault(f"`{source}`", f"../{source}") is None,
-            fault("`krb_peers`", f"../{source}") is None,
-            fault("`krb_window`", f"../{source}") is not None,
-            fault("`specs/Plan.antt`", f"../{source}") is not None)
-    t.check("a page that isn't there", fault("it", "reference/krb_lost.md") is not None)
+    assert (fault("`whole`", "reference/headline.md#relay.whole") is None
+            and fault("the end", "reference/headline.md#the-end-of-it") is None), "an anchor that is there"
+    assert fault("`lost`", "reference/headline.md#relay.lost") is not None, "one that isn't"
+    assert fault("`IsPaired`", f"../{source}") is None and fault("`specs.Planned.IsPaired`", f"../{source}") is None, \
+        "a name that the source has"
+    assert fault("`IsPared`", f"../{source}") is not None and fault("`IsPaired.lost`", f"../{source}") is not None, \
+        "one that it doesn't have"
+    assert (fault(f"`{source}`", f"../{source}") is None and fault("`krb_peers`", f"../{source}") is None
+            and fault("`krb_window`", f"../{source}") is not None
+            and fault("`specs/Plan.antt`", f"../{source}") is not None), "the source itself"
+    assert fault("it", "reference/krb_lost.md") is not None, "a page that isn't there"
     texts["docs/PROVED.md"] = "```\n[x](lost.md)\n```\n[y](lost.md)"
-    t.check("code isn't read", len(list(made.dead_links("docs/PROVED.md", texts))) == 1)
-
-
-def main():
-    t = report.Count()
-    for part in (rust, contracts, definitions, meanings, reached, written, whole, walk, promised,
-                 checks):
-        part(t)
-    return t.end()
-
-
-usage.no_words(__doc__)
-sys.exit(main())
+    assert len(list(made.dead_links("docs/PROVED.md", texts))) == 1, "code isn't read"
