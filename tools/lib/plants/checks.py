@@ -12,7 +12,6 @@ from lib.plants.copies import Copy
 Told = tuple[bool, str]
 WRAPS = ["-Wl,--wrap=malloc", "-Wl,--wrap=realloc", "-Wl,--wrap=free"]
 LINKED = {"calls": ["-Wl,--wrap=clock_gettime", "-Wl,--wrap=getrandom"], "residue": WRAPS[2:]}
-MOST_TOLD = 400     # wrong cases, after which the matrix ends
 OF_A_TEST = 60      # seconds, as `rt ci` gives each test of a crate
 OF_32_BITS = ["-m32", "-ffreestanding", "-nostdlib", "-static", "-fno-pic", "-no-pie", "-fno-stack-protector"]
 
@@ -28,14 +27,20 @@ def secrets_of(copy: Copy) -> list[str]:
     return [f"{copy.top}/c/tests/{it}" for it in ("residue_strings", "round_keys")]
 
 
-def matrix(copy: Copy) -> Told:
+def matrix(copy: Copy, most_told: int = 1) -> Told:
+    """It ends after so many wrong cases."""
     folder = f"{copy.top}/c/tests/matrix"
     program = copy.compiled("matrix", sorted(f"{folder}/{it}" for it in os.listdir(folder)
-                                             if it.endswith(".c")), *WRAPS, f"-DMOST_TOLD={MOST_TOLD}")
+                                             if it.endswith(".c")), *WRAPS, f"-DMOST_TOLD={most_told}")
     made, said = copy.run(["python3", f"{copy.top}/c/tests/inside.py", "inside.bin"])
     if not made:
         return made, said
     return copy.run([program, f"{copy.top}/c/krbrelay.h", "inside.bin", *secrets_of(copy), "-"], most=1_000_000)
+
+
+def whole_matrix(copy: Copy) -> Told:
+    """A fault that leaves a block also asks for one, which other cases tell before."""
+    return matrix(copy, 1_000_000)
 
 
 def inline(copy: Copy) -> Told:
@@ -85,7 +90,7 @@ def c_test(copy: Copy, name: str) -> Told:
     return c_program(copy, name, *words.get(name, ()))
 
 
-OF_C = {"matrix": matrix, "inline": inline, "supported_v3": supported_v3, "costs": costs,
+OF_C = {"matrix": matrix, "whole_matrix": whole_matrix, "inline": inline, "supported_v3": supported_v3, "costs": costs,
         "signatures": signatures}
 
 

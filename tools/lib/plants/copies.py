@@ -177,9 +177,10 @@ class Copy:
 
     def compiled_once(self, source: str, *words: str) -> str:
         """The object of a source that no plant changes."""
-        made = f"{source}.o"
+        defined = [it for it in words if it.startswith("-D")]
+        made = f"{source}{''.join(defined)}.o"
         with ONE:
             if not os.path.exists(made):
                 without_proofs.run([*c_tools.c_compiler(), *FLAGS, f"-I{self.top}/c", f"-I{self.top}/c/tests",
-                                    *(it for it in words if it.startswith("-D")), "-c", source, "-o", made])
+                                    *defined, "-c", source, "-o", made])
         return made
