@@ -1,8 +1,8 @@
 /* Messages a second of ours beside MIT's krb5_mk_* and krb5_rd_*, on one thread, in turns in one
- * process: bench [SECONDS for each row, 0.3 where none are named].
+ * process, and of ours 32 sealed in one call: bench [SECONDS for each row, 0.3 where none are named].
  *
  * Each message is made by one end and read by the other, numbers going on, times checked by both.
- * Told is the best batch of 32 by the thread's processor time, which is the least disturbed one on
+ * Printed is the best batch of 32 by the thread's processor time, which is the least disturbed one on
  * a busy machine. Our confounder comes from MIT's generator, as MIT's does. */
 #include "krbrelay.h"
 #include "mit_end.h"
@@ -12,10 +12,11 @@
 #include <string.h>
 #include <time.h>
 
-enum { BATCH = 32, LONGEST = 60000 };
+enum { BATCH = 32, LONGEST = 60000, LONGEST_FRAME = LONGEST + 500 };
 
 static uint8_t text[LONGEST], frames[BATCH][KRBRELAY_FRAME_LIMIT], got[KRBRELAY_FRAME_LIMIT];
-static size_t sizes[BATCH];
+static uint8_t together[BATCH * LONGEST_FRAME];
+static size_t sizes[BATCH], together_sizes[KRBRELAY_MOST_MESSAGES];
 static krb5_data mit_frames[BATCH], mit_texts[BATCH];
 
 struct ends {
@@ -28,7 +29,7 @@ struct ends {
 };
 
 /* The seconds of a batch, the best so far. */
-struct best { double made, read, in_place, mit_made, mit_read, handles; };
+struct best { double together, made, read, in_place, mit_made, mit_read, handles; };
 
 static double clock_at(clockid_t clock)
 {
@@ -54,14 +55,34 @@ static struct krbrelay_moment moment_of_now(void)
     return moment((uint64_t)now.tv_sec, (uint32_t)(now.tv_nsec / 1000));
 }
 
+static void draw(const struct ends *e, uint8_t confounder[16])
+{
+    krb5_data random = { KV5M_DATA, 16, (char *)confounder };
+    if (e->mode == KRBRELAY_PRIV)
+        must(krb5_c_random_make_octets(ctx, &random), "random");
+}
+
+/* The messages of a batch in one call. */
+static void make_together(struct ends *e)
+{
+    struct krbrelay_unsealed messages[BATCH] = { 0 };
+    size_t failed = 0;
+    for (int i = 0; i < BATCH; i++) {
+        messages[i].user_data = text;
+        messages[i].user_data_len = e->len;
+        messages[i].at = moment_of_now();
+        draw(e, messages[i].confounder);
+    }
+    must(krbrelay_sealer_seal_many(&e->sealer, messages, BATCH, together, sizeof together,
+                                   together_sizes, &failed), "seal_many");
+}
+
 static void make_ours(struct ends *e)
 {
     for (int i = 0; i < BATCH; i++) {
         uint8_t confounder[16] = { 0 };
-        krb5_data random = { KV5M_DATA, sizeof confounder, (char *)confounder };
         struct krbrelay_moment at;
-        if (e->mode == KRBRELAY_PRIV)
-            must(krb5_c_random_make_octets(ctx, &random), "random");
+        draw(e, confounder);
         at = moment_of_now();
         must(krbrelay_sealer_seal(&e->sealer, text, e->len, &at, confounder, frames[i],
                                   KRBRELAY_FRAME_LIMIT, &sizes[i]), "seal");
@@ -158,9 +179,10 @@ static void end_all(struct ends *e)
 static void row(uint32_t mode, int etype, size_t len, double seconds)
 {
     struct ends e = ends_of(mode, etype, len);
-    struct best b = { 1e9, 1e9, 1e9, 1e9, 1e9, 1e9 };
+    struct best b = { 1e9, 1e9, 1e9, 1e9, 1e9, 1e9, 1e9 };
     double start = clock_at(CLOCK_MONOTONIC);
     while (clock_at(CLOCK_MONOTONIC) - start < seconds) {
+        measure(&b.together, make_together, &e);
         measure(&b.made, make_ours, &e);
         measure(&b.read, read_ours, &e);
         measure(&b.in_place, read_in_place, &e);
@@ -169,9 +191,9 @@ static void row(uint32_t mode, int etype, size_t len, double seconds)
         free_mit(&e);
         measure(&b.handles, make_handles, &e);
     }
-    printf("%s %d %6zu  %9.0f %9.0f %9.0f  %9.0f %9.0f  %5.2f %5.2f  %9.0f\n",
-           mode == KRBRELAY_SAFE ? "safe" : "priv", etype, len, BATCH / b.made, BATCH / b.read,
-           BATCH / b.in_place, BATCH / b.mit_made, BATCH / b.mit_read, b.mit_made / b.made,
+    printf("%s %d %6zu  %9.0f %9.0f %9.0f %9.0f  %9.0f %9.0f  %5.2f %5.2f  %9.0f\n",
+           mode == KRBRELAY_SAFE ? "safe" : "priv", etype, len, BATCH / b.together, BATCH / b.made,
+           BATCH / b.read, BATCH / b.in_place, BATCH / b.mit_made, BATCH / b.mit_read, b.mit_made / b.made,
            b.mit_read / b.read, BATCH / b.handles);
     fflush(stdout);
     end_all(&e);
@@ -187,7 +209,7 @@ int main(int argc, char **argv)
     for (int i = 0; i < 32; i++)
         key[i] = (uint8_t)i;
     puts("Messages a second of one thread: ours, MIT's, and ours over MIT's.");
-    puts("mode ty  bytes       made      read  in place   MIT made  MIT read   made  read  new+free");
+    puts("mode ty  bytes   together      made      read  in place   MIT made  MIT read   made  read  new+free");
     for (uint32_t mode = KRBRELAY_SAFE; mode <= KRBRELAY_PRIV; mode++)
         for (int etype = 17; etype <= 18; etype++)
             for (int i = 0; i < 3; i++)

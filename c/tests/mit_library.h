@@ -7,11 +7,12 @@
 
 static krb5_context ctx;
 
-static void must(krb5_error_code error, const char *what)
+/* Ends the test after an error of MIT's library, or of ours. */
+static void must(long error, const char *what)
 {
     if (error == 0)
         return;
-    fprintf(stderr, "%s: %s\n", what, krb5_get_error_message(ctx, error));
+    fprintf(stderr, "%s: %s\n", what, krb5_get_error_message(ctx, (krb5_error_code)error));
     exit(2);
 }
 #endif

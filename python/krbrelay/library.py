@@ -230,7 +230,7 @@ CALLS: Dict[str, Tuple[Any, List[Any]]] = {
         (c_uint32, [_HANDLE, *_KEY, POINTER(SessionStruct), POINTER(DemandStruct)]),
     "krbrelay_peer_resume":
         (c_uint32, [_HANDLE, *_KEY, POINTER(SessionStruct), POINTER(DemandStruct), _STATE]),
-    "krbrelay_peer_seal": (c_uint32, [_HANDLE, *_BYTES, _MOMENT, c_char_p, *_ROOM, _SIZE]),
+    "krbrelay_peer_seal": (c_uint32, [_HANDLE, *_BYTES, _AT, c_char_p, *_KEPT]),
     "krbrelay_peer_open":
         (c_uint32, [_HANDLE, *_BYTES, _MOMENT, *_ROOM, _SIZE, POINTER(CarriedStruct)]),
     "krbrelay_peer_state": (c_uint32, [_HANDLE, POINTER(c_uint64), POINTER(c_uint64)]),

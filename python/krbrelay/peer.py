@@ -1,15 +1,14 @@
 """Peers: one end of a session of user data, in both directions."""
 from __future__ import annotations
 
-import os
 from ctypes import c_uint8, c_uint64
 from dataclasses import replace
 from typing import NamedTuple, Optional
 
 from krbrelay.errors import Code, Refusal
-from krbrelay.handle import Handle, Key
-from krbrelay.library import CONFOUNDER_SIZE, PEER_STATE_SIZE, CarriedStruct
-from krbrelay.sealer import UNUSED, confounder_of, session_struct
+from krbrelay.handle import Key
+from krbrelay.library import PEER_STATE_SIZE, CarriedStruct
+from krbrelay.sealer import SealingHandle, session_struct
 from krbrelay.values import (
     LAST_NUMBER, Address, Body, Bytes, Demand, How, Mode, Moment, body_of, bytes_of, demand_struct,
     moment_struct, ranged)
@@ -25,7 +24,7 @@ class Numbers(NamedTuple):
     """The one that is expected next of the other end."""
 
 
-class Peer(Handle):
+class Peer(SealingHandle):
     """One end of a session: it seals under its own sequence numbers, and opens what the other end
     sealed in order, each message once.
 
@@ -57,6 +56,7 @@ class Peer(Handle):
         else:
             self._maker = "resume"
             super().__init__(etype, key, *ends, _state_of(state))
+        self._keep_room()
 
     def seal(self, user_data: Bytes, at: Optional[Moment] = None,
              confounder: Optional[Bytes] = None) -> bytes:
@@ -65,10 +65,7 @@ class Peer(Handle):
         Exhausted, Freed, ValueError, TypeError, MemoryError.
         """
         content = bytes_of("the user data", user_data)
-        given = None if confounder is None else confounder_of(confounder)
-        drawn = given or (os.urandom(CONFOUNDER_SIZE) if self._draws else UNUSED)
-        room = self._library.krbrelay_frame_size(len(content))
-        return self._write("seal", room, content, len(content), moment_struct(at), drawn)
+        return self._sealed(self._seal, len(content), content, at, confounder)
 
     def open(self, frame: Bytes, at: Optional[Moment] = None) -> Body:
         """What a message of the other end with the expected number carries. The number is one more

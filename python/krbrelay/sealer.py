@@ -43,7 +43,36 @@ class Kept:
         self.places = (addressof(self._buffer), room, addressof(self.size))
 
 
-class Sealer(Handle):
+class SealingHandle(Handle):
+    """A handle that seals, with room for messages that it keeps between its calls."""
+
+    _draws: bool                    # a confounder for each message
+
+    def _keep_room(self) -> None:
+        self._kept = Kept(self._library, KEPT_SIZE)
+        self._seal = self._function("seal")
+
+    def _sealed(self, call: Callable[..., int], size: int, content: bytes, at: Optional[Moment],
+                confounder: Optional[Bytes], *kind: int) -> bytes:
+        """What a call seals of the content, which becomes user data of this size."""
+        given = None if confounder is None else confounder_of(confounder)
+        micros = time_ns() // 1000 if at is None else ranged("the moment", micros_of(at), 0, MOST)
+        if os.getpid() != self._process:
+            raise RuntimeError(OF_A_PARENT)
+        with self._lock:
+            # The lock also keeps the mode: a KRB-PRIV is never sealed under what isn't drawn.
+            drawn = given or (os.urandom(CONFOUNDER_SIZE) if self._draws else UNUSED)
+            kept = self._kept if size <= KEPT_SIZE else Kept(self._library, size)
+            moment = kept.moment
+            moment.seconds, moment.microseconds = divmod(micros, 1_000_000)
+            answer = call(self._place, *kind, content, len(content), kept.moment_at, drawn,
+                          *kept.places)
+            if answer:
+                raise exception_of(answer)
+            return kept.view[:kept.size.value].tobytes()
+
+
+class Sealer(SealingHandle):
     """Seals messages under a session key, with one sequence number after another.
 
     `etype` is 17 with a `key` of 16 bytes, or 18 with one of 32 (RFC 3962). The key is copied: the
@@ -60,8 +89,8 @@ class Sealer(Handle):
                  receiver: Optional[Address] = None) -> None:
         self._draws = Mode(mode) is Mode.PRIV
         super().__init__(etype, key, session_struct(mode, sender, first, receiver))
-        self._kept = Kept(self._library, KEPT_SIZE)
-        self._seal, self._seal_record = self._function("seal"), self._function("seal_record")
+        self._keep_room()
+        self._seal_record = self._function("seal_record")
 
     def seal(self, user_data: Bytes, at: Optional[Moment] = None,
              confounder: Optional[Bytes] = None) -> bytes:
@@ -113,25 +142,6 @@ class Sealer(Handle):
         where the record is too long, or a batch hasn't 2 to 1,000 texts."""
         kind, content = record_bytes(record)
         return self._sealed(self._seal_record, len(content) + 1, content, at, confounder, kind)
-
-    def _sealed(self, call: Callable[..., int], size: int, content: bytes, at: Optional[Moment],
-                confounder: Optional[Bytes], *kind: int) -> bytes:
-        """What a call seals of the content, which becomes user data of this size."""
-        given = None if confounder is None else confounder_of(confounder)
-        micros = time_ns() // 1000 if at is None else ranged("the moment", micros_of(at), 0, MOST)
-        if os.getpid() != self._process:
-            raise RuntimeError(OF_A_PARENT)
-        with self._lock:
-            # The lock also keeps the mode: a KRB-PRIV is never sealed under what isn't drawn.
-            drawn = given or (os.urandom(CONFOUNDER_SIZE) if self._draws else UNUSED)
-            kept = self._kept if size <= KEPT_SIZE else Kept(self._library, size)
-            moment = kept.moment
-            moment.seconds, moment.microseconds = divmod(micros, 1_000_000)
-            answer = call(self._place, *kind, content, len(content), kept.moment_at, drawn,
-                          *kept.places)
-            if answer:
-                raise exception_of(answer)
-            return kept.view[:kept.size.value].tobytes()
 
     @property
     def next(self) -> int:
