@@ -1,23 +1,37 @@
-//! The calling thread receives in rounds: each takes one item of each lane whose End wasn't taken.
+//! The calling thread serves all lanes in rounds: each takes one item of each lane whose End wasn't
+//! taken.
 
-ghost use Rattle.std.specs.Prelude.{◌≡◌, ◌↔◌, ◌<◌, ◌+◌, length, map, All, IsTrue, IfErr, IfNone, IfSome, OnOk, OnErr};
+ghost use Rattle.std.specs.Prelude.{◌≡◌, ◌↔◌, List, length, map, All, IsTrue, OnOk, OnErr};
 ghost use Rattle.std.specs.List.{AllZip};
-ghost use Rattle.krb_lane.specs.Side.{Side};
-ghost use Rattle.krb_peers.specs.Logged.{IsShut};
 ghost use Rattle.krb_relay.specs.Gathering.{IsEnded, NotesAll, lane_of};
 ghost use Rattle.krb_relay.specs.Heard.{all_heard, rounds_heard, AreAnswers};
-ghost use Rattle.krb_relay.specs.Serving.{Drains, Stands, Stops, Turns, post};
+ghost use Rattle.krb_lane.specs.Side.{Side};
+ghost use Rattle.krb_relay.specs.Opening.{AreReady, OpensEach};
+ghost use Rattle.krb_relay.specs.Serving.{Drains, Stands, Stops};
+ghost use Rattle.krb_relay.specs.Waiting.{HaveTaken, IsUnjudged};
+ghost use denote.Param.Send.{IsSync};
 
 use crate::cause::OwnCause;
 use crate::fault::OwnFault;
+use crate::logging::log_all;
+use crate::opening::{open_in_turn, open_lanes};
+use crate::taking::take_rounds;
+use crate::waiting::{Waiting, none_waiting};
 use krb_lane::{Item, LaneRx, Lost};
 use krb_peers::{Log, Receiving};
 use std::alloc::Global;
 use std::snapshot::Snapshot;
 use std::sync::Wait;
+use std::thread::{Threads, join_mut};
+
+/// Of fewer bytes those of all lanes are opened one after another: threads would cost more than they
+/// save.
+const ENOUGH: usize = 1 << 14;
 
 /// Serves all lanes to their Ends.
-pub(crate) fn serve_all<R: Wait>(
+///
+/// While what came in some rounds is opened, the next rounds are taken.
+pub(crate) fn serve_all<R: Threads + Wait + Sync>(
     rt: &R,
     alloc: Global,
     starts: &Snapshot<Vec<Receiving>>,
@@ -35,11 +49,25 @@ pub(crate) fn serve_all<R: Wait>(
     ensures stops { OnErr result (Stops starts.now.value.items ends.old ends.new log.new) }
     ensures same { map lane_of ends.new ≡ map lane_of ends.old }
 {
+    let mut waiting = none_waiting(alloc, ends)?;
+    let mut bytes = take_rounds(rt, ends, waiting.as_mut_slice());
     for _ in rt.forever() {
-        if all_ended(ends) {
+        let over = all_ended(ends);
+        let mut next = none_waiting(alloc, ends)?;
+        bytes = open_and_take(
+            rt,
+            alloc,
+            ENOUGH <= bytes,
+            receivings,
+            &mut waiting,
+            ends,
+            &mut next,
+        );
+        log_all(rt, &mut waiting, log)?;
+        if over {
             return Ok(());
         }
-        round(rt, alloc, starts, ends, receivings, log)?;
+        waiting = next;
     }
     unreachable!()
 }
@@ -51,98 +79,40 @@ fn all_ended(ends: &[LaneRx]) -> bool
     ends.iter().all(|rx| rx.ended())
 }
 
-/// One round.
-fn round<R: Wait>(
+/// Opens what waits, and takes the next rounds meanwhile if it is much. The result is how many bytes
+/// came.
+fn open_and_take<R: Threads + Wait + Sync>(
     rt: &R,
     alloc: Global,
-    starts: &Snapshot<Vec<Receiving>>,
-    ends: &mut [LaneRx],
+    much: bool,
     receivings: &mut [Receiving],
-    log: &mut Log,
-) -> Result<(), OwnFault>
-    requires { Stands 0 starts.now.value.items ends.old receivings.old log.old }
-    ensures ok { OnOk result (Stands 0 starts.now.value.items ends.new receivings.new log.new) }
-    ensures err { OnErr result (Stops starts.now.value.items ends.old ends.new log.new) }
-    ensures same { map lane_of ends.new ≡ map lane_of ends.old }
-{
-    for lane in 0..ends.len() {
-        turn_at(rt, alloc, starts, lane, ends, receivings, log)?;
-    }
-    Ok(())
-}
-
-/// The turn of a lane in a round.
-fn turn_at<R: Wait>(
-    rt: &R,
-    alloc: Global,
-    starts: &Snapshot<Vec<Receiving>>,
-    lane: usize,
+    waiting: &mut [Waiting],
     ends: &mut [LaneRx],
-    receivings: &mut [Receiving],
-    log: &mut Log,
-) -> Result<(), OwnFault>
-    requires there { lane < length ends.old }
-    requires stands { Stands lane starts.now.value.items ends.old receivings.old log.old }
-    ensures ok { OnOk result
-        (Stands (lane + 1) starts.now.value.items ends.new receivings.new log.new) }
-    ensures err { OnErr result (Stops starts.now.value.items ends.old ends.new log.new) }
-    ensures named { IfErr result (λ fault. fault.lane ≡ lane) }
-    ensures same { map lane_of ends.new ≡ map lane_of ends.old }
+    next: &mut [Waiting],
+) -> usize
+    requires ready { AreReady receivings.old waiting.old }
+    requires each { length ends.old ≡ length next.old }
+    requires unjudged { All IsUnjudged next.old }
+    ensures opened { OpensEach receivings.old waiting.old receivings.new waiting.new }
+    ensures taken { (mids : List Side) → HaveTaken mids ends.old next.old
+        → HaveTaken mids ends.new next.new }
+    ensures unjudged { All IsUnjudged next.new }
 {
-    let number = lane as u32;
-    match turn(
-        rt,
-        alloc,
-        number,
-        &mut ends[lane],
-        &mut receivings[lane],
-        log,
-    ) {
-        Ok(()) => Ok(()),
-        Err(cause) => Err(OwnFault {
-            cause,
-            lane: number,
-        }),
+    if !much {
+        open_in_turn(alloc, receivings, waiting);
+        return take_rounds(rt, ends, next);
     }
-}
-
-/// Takes the next item of a lane, unless its End was taken: a frame is judged and its outcome
-/// logged; an End is noted in the log.
-fn turn<R: Wait>(
-    rt: &R,
-    alloc: Global,
-    lane: u32,
-    rx: &mut LaneRx,
-    receiving: &mut Receiving,
-    log: &mut Log,
-) -> Result<(), OwnCause>
-    requires lane { lane < log.old.lanes }
-    requires shut { IsShut log.old lane receiving.old.receiver }
-    requires moments { 0 < length receiving.old.nows.items }
-    ensures ok { OnOk result ((start : Receiving)
-        → Turns lane (post start rx.old receiving.old) log.old
-        (post start rx.new receiving.new) log.new) }
-    ensures err { OnErr result (Drains rx.old rx.new × (log.new ≡ log.old)) }
-    ensures same { rx.new.lane ≡ rx.old.lane }
-{
-    if rx.ended() {
-        return Ok(());
-    }
-    match rx.take(rt) {
-        Ok(Item::Frame { index, bytes }) => {
-            let now = receiving.moment_at(index as usize);
-            let receiver = &mut receiving.receiver;
-            match receiver.take_into(log, alloc, lane, bytes.as_slice(), now) {
-                Ok(()) => Ok(()),
-                Err(_) => Err(OwnCause::Memory),
-            }
-        }
-        Ok(Item::End) => {
-            log.end(lane);
-            Ok(())
-        }
-        Err(Lost) => Err(OwnCause::Lost),
-    }
+    let mut open = ||
+        requires { IsSync R.row × AreReady receivings.now waiting.now }
+        ensures { OpensEach receivings.entry.now waiting.entry.now receivings.exit.now waiting.exit.now }
+    { open_lanes(rt, alloc, receivings, waiting) };
+    let mut take = || -> usize
+        requires { (length ends.now ≡ length next.now) × All IsUnjudged next.now }
+        ensures { ((mids : List Side) → HaveTaken mids ends.entry.now next.entry.now
+            → HaveTaken mids ends.exit.now next.exit.now) × All IsUnjudged next.exit.now }
+    { take_rounds(rt, ends, next) };
+    let (_, bytes) = join_mut(rt, &mut open, &mut take);
+    bytes
 }
 
 /// Takes and drops what comes through each end, until End or until its sender is gone.
