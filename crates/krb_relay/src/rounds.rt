@@ -26,14 +26,16 @@ use std::thread::{Threads, join_mut};
 
 /// Of fewer bytes those of all lanes are opened one after another: threads would cost more than they
 /// save.
-const ENOUGH: usize = 1 << 14;
+const ENOUGH: usize = 1 << 18;
 
 /// Serves all lanes to their Ends.
 ///
-/// While what came in some rounds is opened, the next rounds are taken.
+/// While what came in some rounds is opened, the next rounds are taken: at most `most` at a time, since
+/// a lane has no more items ready than it has places.
 pub(crate) fn serve_all<R: Threads + Wait + Sync>(
     rt: &R,
     alloc: Global,
+    most: usize,
     starts: &Snapshot<Vec<Receiving>>,
     ends: &mut [LaneRx],
     receivings: &mut [Receiving],
@@ -50,13 +52,14 @@ pub(crate) fn serve_all<R: Threads + Wait + Sync>(
     ensures same { map lane_of ends.new ≡ map lane_of ends.old }
 {
     let mut waiting = none_waiting(alloc, ends)?;
-    let mut bytes = take_rounds(rt, ends, waiting.as_mut_slice());
+    let mut bytes = take_rounds(rt, most, ends, waiting.as_mut_slice());
     for _ in rt.forever() {
         let over = all_ended(ends);
         let mut next = none_waiting(alloc, ends)?;
         bytes = open_and_take(
             rt,
             alloc,
+            most,
             ENOUGH <= bytes,
             receivings,
             &mut waiting,
@@ -84,6 +87,7 @@ fn all_ended(ends: &[LaneRx]) -> bool
 fn open_and_take<R: Threads + Wait + Sync>(
     rt: &R,
     alloc: Global,
+    most: usize,
     much: bool,
     receivings: &mut [Receiving],
     waiting: &mut [Waiting],
@@ -100,7 +104,7 @@ fn open_and_take<R: Threads + Wait + Sync>(
 {
     if !much {
         open_in_turn(alloc, receivings, waiting);
-        return take_rounds(rt, ends, next);
+        return take_rounds(rt, most, ends, next);
     }
     let mut open = ||
         requires { IsSync R.row × AreReady receivings.now waiting.now }
@@ -110,7 +114,7 @@ fn open_and_take<R: Threads + Wait + Sync>(
         requires { (length ends.now ≡ length next.now) × All IsUnjudged next.now }
         ensures { ((mids : List Side) → HaveTaken mids ends.entry.now next.entry.now
             → HaveTaken mids ends.exit.now next.exit.now) × All IsUnjudged next.exit.now }
-    { take_rounds(rt, ends, next) };
+    { take_rounds(rt, most, ends, next) };
     let (_, bytes) = join_mut(rt, &mut open, &mut take);
     bytes
 }

@@ -16,11 +16,16 @@ const MANY: usize = 1 << 19;
 /// What a frame counts beside its bytes.
 const OF_A_FRAME: usize = 128;
 
-/// Takes some rounds. The result is how many bytes came.
+/// Takes at most `most` rounds. The result is how many bytes came.
 ///
 /// If a lane has no item in its turn, its sender being gone or memory having run out, that is the
 /// last turn.
-pub(crate) fn take_rounds<R: Wait>(rt: &R, ends: &mut [LaneRx], waiting: &mut [Waiting]) -> usize
+pub(crate) fn take_rounds<R: Wait>(
+    rt: &R,
+    most: usize,
+    ends: &mut [LaneRx],
+    waiting: &mut [Waiting],
+) -> usize
     requires each { length ends.old ≡ length waiting.old }
     requires unjudged { All IsUnjudged waiting.old }
     ensures taken { (mids : List Side) → HaveTaken mids ends.old waiting.old
@@ -28,7 +33,7 @@ pub(crate) fn take_rounds<R: Wait>(rt: &R, ends: &mut [LaneRx], waiting: &mut [W
     ensures unjudged { All IsUnjudged waiting.new }
 {
     let mut bytes = 0usize;
-    for _ in 0..MANY {
+    for _ in 0..most {
         let Some(more) = take_round(rt, ends, waiting) else {
             return bytes;
         };
