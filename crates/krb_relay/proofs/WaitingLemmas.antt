@@ -28,7 +28,7 @@ use Rattle.krb_relay.specs.declared.waiting.Waiting.{Waiting}
 use Rattle.krb_relay.specs.Gathering.{IsEnded, lane_of}
 use Rattle.krb_relay.specs.Opening.{HasJudged, OpensEach, AreReady}
 use Rattle.krb_relay.specs.Serving.{post, Stands, Stops, Drains, Turns, passed, closed}
-use Rattle.krb_relay.specs.Waiting.{Follows, HasTaken, HaveTaken, IsJudged, AreWaiting, Waits, Pending, CanLog, IsEmpty, IsUnjudged, MayBeLogged, LogsFrame, LogsLast, LogsItem}
+use Rattle.krb_relay.specs.Waiting.{Follows, HasTaken, HaveTaken, IsJudged, AreWaiting, Waits, CanLog, IsEmpty, IsUnjudged, MayBeLogged, LogsFrame, LogsLast, LogsItem}
 use Rattle.krb_relay.proofs.EndsLemmas.{all_drains_self, all_drains_more}
 use Rattle.krb_relay.proofs.OpeningLemmas.{side, within_default}
 use Rattle.krb_relay.proofs.StandsLemmas.{all_answered, all_logged, notes_taken, lanes_are, lane_below, lane_small, moments_of, next_round, shut_here, turned}
@@ -588,65 +588,17 @@ module _ (starts : List Receiving) (ends : List Side) (receivings : List Receivi
       let P : List Side → List Receiving → Type 0 = λ x y. Stands 0 starts x y log in
       subst (λ x. P x receivings) sides (subst (λ y. P h.mids y) them h.stands)
 
--- ---- what isn't opened yet
-
-module _ (starts : List Receiving) (ends : List Side) (receivings : List Receiving) (ws : List Waiting) (log : LogState) (p : Pending starts ends receivings ws log) where
-  pub pending_ready : AreReady receivings ws
-  pending_ready = ready_of starts p.mids receivings log ends ws p.stands p.taken p.unjudged
-
-  -- once it is opened
-  pub pending_waits : (now : List Receiving) (vs : List Waiting) → OpensEach receivings ws now vs → Waits 0 starts ends now vs log
-  pending_waits now vs o = record {
-    mids = p.mids;
-    its = receivings;
-    stands = p.stands;
-    waits = waiting_of p.mids receivings ends now ws vs (p.stands.each_receiver ∙ sym p.stands.each_end) p.taken o;
-  }
-
-  pub pending_can : (now : List Receiving) (vs : List Waiting) → OpensEach receivings ws now vs → CanLog 0 vs log
-  pending_can now vs o = record { starts = starts; ends = ends; receivings = now; waits = pending_waits now vs o }
-
-  -- where the thread stops before that
-  pub pending_stop : (before : List Side) → map lane_of ends ≡ map lane_of before → Stops starts before ends log
-  pending_stop before same = record {
-    mid = p.mids;
-    judged = all_answered 0 starts p.mids receivings log p.stands;
-    logged = all_logged 0 starts p.mids receivings log p.stands;
-    lanes = lanes_are 0 starts p.mids receivings log p.stands;
-    taken = notes_taken 0 starts p.mids receivings log p.stands;
-    same = sym (same_lanes_of p.mids ends ws p.taken) ∙ same;
-    drained = drains_of p.mids ends ws p.taken;
-  }
-
--- more was taken since
-pub stops_later : (starts : List Receiving) (before ends now : List Side) (ws : List Waiting) (log : LogState) → Stops starts ends ends log → map lane_of ends ≡ map lane_of before → HaveTaken ends now ws → Stops starts before now log
-stops_later starts before ends now ws log h same taken = record {
+-- the lanes are those of these ends
+pub stops_from : (starts : List Receiving) (before ends now : List Side) (log : LogState) → Stops starts ends now log → map lane_of ends ≡ map lane_of before → Stops starts before now log
+stops_from starts before ends now log h same = record {
   mid = h.mid;
   judged = h.judged;
   logged = h.logged;
   lanes = h.lanes;
   taken = h.taken;
   same = h.same ∙ same;
-  drained = all_drains_more h.mid ends now h.drained (drains_of ends now ws taken);
+  drained = h.drained;
 }
-
--- of lanes that have all ended nothing more is taken
-none_after : (l : Last) (m e : Side) (frames : List (List ℕ)) → m.ended ≡ true → Follows l m e frames → (frames ≡ []) × (e.ended ≡ true)
-none_after last.Nothing m e frames is f = (f.2, f.1)
-none_after last.End m e frames is f = absurd (let g = f.0 in let b : true ≡ false = sym is ∙ g in cc)
-none_after (last.More cause) m e frames is f = absurd (let g = f.0 in let b : true ≡ false = sym is ∙ g in cc)
-
-pub ended_stay : (ends now : List Side) (ws : List Waiting) → All IsEnded ends → HaveTaken ends now ws → now ≡ ends
-ended_stay ends now ws ended h =
-    let n = h.each_end in
-    let m = h.each_lane in
-    same_lists now ends n (λ k d lt.
-    let within : k < length ends = omega (arith, n, lt) in
-    let w : Waiting = some_of ws k (omega (arith, m, within)) in
-    let t = h.each k d d w within in
-    let e : (get_or ends k d).ended ≡ true = ended k d within in
-    let f = none_after (get_or ws k w).last (get_or ends k d) (get_or now k d) (get_or ws k w).frames.items e t.follows in
-    side_is (get_or now k d) (get_or ends k d) t.same t.capacity (t.frames ∙ (ap (λ gs. (get_or ends k d).frames ++ gs) f.0 ∙ append-nil (get_or ends k d).frames)) (f.1 ∙ sym e))
 
 -- ---- the lists of a round
 
@@ -673,15 +625,3 @@ have_taken_none ws none = record {
 
 pub unjudged_none : (ws : List Waiting) → ws ≡ [] → All IsUnjudged ws
 unjudged_none ws none = let P : List Waiting → Type 0 = λ vs. All IsUnjudged vs in subst P (sym none) (All-nil IsUnjudged)
-
-drop_past : {X : Type 0} (k : ℕ) (xs : List X) → length xs ≤ k → drop k xs ≡ []
-drop_past zero [] le = refl
-drop_past (suc k) [] le = refl
-drop_past zero (x ∷ xs) le = absurd (omega (arith, le))
-drop_past (suc k) (x ∷ xs) le = drop_past k xs (omega (arith, le))
-
--- a list that was written whole
-pub written : {X : Type 0} (n : ℕ) (now was : List X) → length now ≡ length was → n ≡ length was → take n (now ++ drop (length now) was) ≡ now
-written n now was same len =
-    ap (λ l. take n (now ++ l)) (drop_past (length now) was (omega (arith, same)))
-    ∙ (ap (λ l. take n l) (append-nil now) ∙ take_all n now (omega (arith, same, len)))

@@ -1,4 +1,4 @@
--- What came through the lanes in some rounds, and waits for the log.
+-- What came through the lanes in a round, and waits for the log.
 use Rattle.std.specs.Prelude.{◌≡◌, ◌≢◌, ℕ, ◌<◌, ◌⊎◌, true, false, List, [], ◌∷◌, ◌++◌, length, get_or, All}
 use Rattle.krb_base.specs.Bytes.{AreBytes}
 use Rattle.krb_lane.specs.Side.{Side}
@@ -102,15 +102,6 @@ pub record LogsLast (lane : ℕ) (w : Waiting) (log : LogState) (now : Waiting)
 -- the next item of a lane was logged
 abbrev pub LogsItem : ℕ → Waiting → LogState → Waiting → LogState → Type 0
 LogsItem lane w log now log-now = LogsFrame lane w log now log-now ⊎ LogsLast lane w log now log-now
-
--- what waits of all lanes is what came through these ends since some rounds were logged, and isn't
--- opened
-pub record Pending (starts : List Receiving) (ends : List Side) (receivings : List Receiving)
-    (waiting : List Waiting) (log : LogState) : Type 0 where
-  pub mids : List Side
-  pub stands : Stands 0 starts mids receivings log
-  pub taken : HaveTaken mids ends waiting
-  pub unjudged : All IsUnjudged waiting
 
 -- what waits can be logged from this lane on
 pub record CanLog (number : ℕ) (waiting : List Waiting) (log : LogState) : Type 0 where

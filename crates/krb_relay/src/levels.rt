@@ -60,14 +60,7 @@ pub(crate) fn level<'s, 'e, R: Threads + Wait + Sync, S: Send + Drop + 's, W: Wo
 {
     let number = ends.len() as u32;
     let Some(part) = parts.pop() else {
-        let own = finish(
-            rt,
-            alloc,
-            capacity,
-            ends.as_mut_slice(),
-            &mut receivings,
-            &mut log,
-        );
+        let own = finish(rt, alloc, ends.as_mut_slice(), &mut receivings, &mut log);
         return Gathered {
             ends,
             log,

@@ -24,6 +24,7 @@ mod opening;
 mod rounds;
 mod running;
 mod serving;
+mod side_by_side;
 mod taking;
 mod waiting;
 mod work;

@@ -1,41 +1,32 @@
-//! The calling thread serves all lanes in rounds: each takes one item of each lane whose End wasn't
-//! taken.
+//! The calling thread receives in rounds: each takes one item of each lane whose End wasn't taken.
+//! Where frames are long, those of a round are opened side by side.
 
-ghost use Rattle.std.specs.Prelude.{◌≡◌, ◌↔◌, List, length, map, All, IsTrue, OnOk, OnErr};
+ghost use Rattle.std.specs.Prelude.{◌≡◌, ◌↔◌, ◌<◌, ◌+◌, length, map, All, IsTrue, IfErr, IfNone, IfSome, OnOk, OnErr};
 ghost use Rattle.std.specs.List.{AllZip};
+ghost use Rattle.krb_lane.specs.Side.{Side};
+ghost use Rattle.krb_peers.specs.Logged.{IsShut};
 ghost use Rattle.krb_relay.specs.Gathering.{IsEnded, NotesAll, lane_of};
 ghost use Rattle.krb_relay.specs.Heard.{all_heard, rounds_heard, AreAnswers};
-ghost use Rattle.krb_lane.specs.Side.{Side};
-ghost use Rattle.krb_relay.specs.Opening.{AreReady, OpensEach};
-ghost use Rattle.krb_relay.specs.Serving.{Drains, Stands, Stops};
-ghost use Rattle.krb_relay.specs.Waiting.{HaveTaken, IsUnjudged};
-ghost use denote.Param.Send.{IsSync};
+ghost use Rattle.krb_relay.specs.Serving.{Drains, Stands, Stops, Turns, post};
 
 use crate::cause::OwnCause;
 use crate::fault::OwnFault;
-use crate::logging::log_all;
-use crate::opening::{open_in_turn, open_lanes};
-use crate::taking::take_rounds;
-use crate::waiting::{Waiting, none_waiting};
+use crate::side_by_side::round_side_by_side;
 use krb_lane::{Item, LaneRx, Lost};
 use krb_peers::{Log, Receiving};
 use std::alloc::Global;
 use std::snapshot::Snapshot;
 use std::sync::Wait;
-use std::thread::{Threads, join_mut};
+use std::thread::Threads;
 
-/// Of fewer bytes those of all lanes are opened one after another: threads would cost more than they
-/// save.
-const ENOUGH: usize = 1 << 18;
+/// If a round had so many bytes, the frames of the next one are opened side by side. With fewer, threads
+/// would cost more than they save.
+const ENOUGH: usize = 1 << 17;
 
 /// Serves all lanes to their Ends.
-///
-/// While what came in some rounds is opened, the next rounds are taken: at most `most` at a time, since
-/// a lane has no more items ready than it has places.
 pub(crate) fn serve_all<R: Threads + Wait + Sync>(
     rt: &R,
     alloc: Global,
-    most: usize,
     starts: &Snapshot<Vec<Receiving>>,
     ends: &mut [LaneRx],
     receivings: &mut [Receiving],
@@ -51,26 +42,16 @@ pub(crate) fn serve_all<R: Threads + Wait + Sync>(
     ensures stops { OnErr result (Stops starts.now.value.items ends.old ends.new log.new) }
     ensures same { map lane_of ends.new ≡ map lane_of ends.old }
 {
-    let mut waiting = none_waiting(alloc, ends)?;
-    let mut bytes = take_rounds(rt, most, ends, waiting.as_mut_slice());
+    let mut bytes = 0;
     for _ in rt.forever() {
-        let over = all_ended(ends);
-        let mut next = none_waiting(alloc, ends)?;
-        bytes = open_and_take(
-            rt,
-            alloc,
-            most,
-            ENOUGH <= bytes,
-            receivings,
-            &mut waiting,
-            ends,
-            &mut next,
-        );
-        log_all(rt, &mut waiting, log)?;
-        if over {
+        if all_ended(ends) {
             return Ok(());
         }
-        waiting = next;
+        bytes = if bytes < ENOUGH {
+            round(rt, alloc, starts, ends, receivings, log)?
+        } else {
+            round_side_by_side(rt, alloc, starts, ends, receivings, log)?
+        };
     }
     unreachable!()
 }
@@ -82,41 +63,100 @@ fn all_ended(ends: &[LaneRx]) -> bool
     ends.iter().all(|rx| rx.ended())
 }
 
-/// Opens what waits, and takes the next rounds meanwhile if it is much. The result is how many bytes
-/// came.
-fn open_and_take<R: Threads + Wait + Sync>(
+/// One round. The result is how many bytes its frames had.
+fn round<R: Wait>(
     rt: &R,
     alloc: Global,
-    most: usize,
-    much: bool,
-    receivings: &mut [Receiving],
-    waiting: &mut [Waiting],
+    starts: &Snapshot<Vec<Receiving>>,
     ends: &mut [LaneRx],
-    next: &mut [Waiting],
-) -> usize
-    requires ready { AreReady receivings.old waiting.old }
-    requires each { length ends.old ≡ length next.old }
-    requires unjudged { All IsUnjudged next.old }
-    ensures opened { OpensEach receivings.old waiting.old receivings.new waiting.new }
-    ensures taken { (mids : List Side) → HaveTaken mids ends.old next.old
-        → HaveTaken mids ends.new next.new }
-    ensures unjudged { All IsUnjudged next.new }
+    receivings: &mut [Receiving],
+    log: &mut Log,
+) -> Result<usize, OwnFault>
+    requires { Stands 0 starts.now.value.items ends.old receivings.old log.old }
+    ensures ok { OnOk result (Stands 0 starts.now.value.items ends.new receivings.new log.new) }
+    ensures err { OnErr result (Stops starts.now.value.items ends.old ends.new log.new) }
+    ensures same { map lane_of ends.new ≡ map lane_of ends.old }
 {
-    if !much {
-        open_in_turn(alloc, receivings, waiting);
-        return take_rounds(rt, most, ends, next);
+    let mut bytes = 0usize;
+    for lane in 0..ends.len() {
+        let more = turn_at(rt, alloc, starts, lane, ends, receivings, log)?;
+        bytes = bytes.saturating_add(more);
     }
-    let mut open = ||
-        requires { IsSync R.row × AreReady receivings.now waiting.now }
-        ensures { OpensEach receivings.entry.now waiting.entry.now receivings.exit.now waiting.exit.now }
-    { open_lanes(rt, alloc, receivings, waiting) };
-    let mut take = || -> usize
-        requires { (length ends.now ≡ length next.now) × All IsUnjudged next.now }
-        ensures { ((mids : List Side) → HaveTaken mids ends.entry.now next.entry.now
-            → HaveTaken mids ends.exit.now next.exit.now) × All IsUnjudged next.exit.now }
-    { take_rounds(rt, most, ends, next) };
-    let (_, bytes) = join_mut(rt, &mut open, &mut take);
-    bytes
+    Ok(bytes)
+}
+
+/// The turn of a lane in a round. The result is how many bytes its frame had.
+fn turn_at<R: Wait>(
+    rt: &R,
+    alloc: Global,
+    starts: &Snapshot<Vec<Receiving>>,
+    lane: usize,
+    ends: &mut [LaneRx],
+    receivings: &mut [Receiving],
+    log: &mut Log,
+) -> Result<usize, OwnFault>
+    requires there { lane < length ends.old }
+    requires stands { Stands lane starts.now.value.items ends.old receivings.old log.old }
+    ensures ok { OnOk result
+        (Stands (lane + 1) starts.now.value.items ends.new receivings.new log.new) }
+    ensures err { OnErr result (Stops starts.now.value.items ends.old ends.new log.new) }
+    ensures named { IfErr result (λ fault. fault.lane ≡ lane) }
+    ensures same { map lane_of ends.new ≡ map lane_of ends.old }
+{
+    let number = lane as u32;
+    match turn(
+        rt,
+        alloc,
+        number,
+        &mut ends[lane],
+        &mut receivings[lane],
+        log,
+    ) {
+        Ok(bytes) => Ok(bytes),
+        Err(cause) => Err(OwnFault {
+            cause,
+            lane: number,
+        }),
+    }
+}
+
+/// Takes the next item of a lane, unless its End was taken: a frame is judged and its outcome
+/// logged; an End is noted in the log. The result is how many bytes the frame had.
+fn turn<R: Wait>(
+    rt: &R,
+    alloc: Global,
+    lane: u32,
+    rx: &mut LaneRx,
+    receiving: &mut Receiving,
+    log: &mut Log,
+) -> Result<usize, OwnCause>
+    requires lane { lane < log.old.lanes }
+    requires shut { IsShut log.old lane receiving.old.receiver }
+    requires moments { 0 < length receiving.old.nows.items }
+    ensures ok { OnOk result ((start : Receiving)
+        → Turns lane (post start rx.old receiving.old) log.old
+        (post start rx.new receiving.new) log.new) }
+    ensures err { OnErr result (Drains rx.old rx.new × (log.new ≡ log.old)) }
+    ensures same { rx.new.lane ≡ rx.old.lane }
+{
+    if rx.ended() {
+        return Ok(0);
+    }
+    match rx.take(rt) {
+        Ok(Item::Frame { index, bytes }) => {
+            let now = receiving.moment_at(index as usize);
+            let receiver = &mut receiving.receiver;
+            match receiver.take_into(log, alloc, lane, bytes.as_slice(), now) {
+                Ok(()) => Ok(bytes.as_slice().len()),
+                Err(_) => Err(OwnCause::Memory),
+            }
+        }
+        Ok(Item::End) => {
+            log.end(lane);
+            Ok(0)
+        }
+        Err(Lost) => Err(OwnCause::Lost),
+    }
 }
 
 /// Takes and drops what comes through each end, until End or until its sender is gone.

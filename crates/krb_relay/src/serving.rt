@@ -20,7 +20,6 @@ use std::thread::Threads;
 pub(crate) fn finish<R: Threads + Wait + Sync>(
     rt: &R,
     alloc: Global,
-    capacity: usize,
     ends: &mut [LaneRx],
     receivings: &mut Vec<Receiving>,
     log: &mut Log,
@@ -34,15 +33,7 @@ pub(crate) fn finish<R: Threads + Wait + Sync>(
     ensures wiped { All IsWiped receivings.new.items }
 {
     let starts = Snapshot::of(&*receivings);
-    let served = serve_all(
-        rt,
-        alloc,
-        capacity,
-        &starts,
-        ends,
-        receivings.as_mut_slice(),
-        log,
-    );
+    let served = serve_all(rt, alloc, &starts, ends, receivings.as_mut_slice(), log);
     wipe_receivers(receivings.as_mut_slice());
     match served {
         Ok(()) => None,

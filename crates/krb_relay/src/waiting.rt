@@ -1,4 +1,4 @@
-//! What came through the lanes in some rounds, and waits for the log.
+//! What came through the lanes in a round, and waits for the log.
 
 ghost use Rattle.std.specs.Prelude.{[], All, IfOk};
 ghost use Rattle.krb_relay.specs.Waiting.{Follows, HasTaken, HaveTaken, IsUnjudged};
@@ -22,7 +22,7 @@ pub(crate) enum Last {
     More(OwnCause),
 }
 
-/// What came through a lane in some rounds, and waits for the log.
+/// What came through a lane in a round, and waits for the log.
 #[derive(Drop)]
 pub(crate) struct Waiting {
     /// How many frames have come through the lane so far.
@@ -35,7 +35,7 @@ pub(crate) struct Waiting {
     pub(crate) last: Last,
 }
 
-/// That of each lane before the first of these rounds: nothing waits.
+/// That of each lane before the round: nothing waits.
 pub(crate) fn none_waiting(alloc: Global, ends: &[LaneRx]) -> Result<Vec<Waiting>, AllocError>
     ensures taken { IfOk result (λ all. HaveTaken ends.now ends.now all.items) }
     ensures unjudged { IfOk result (λ all. All IsUnjudged all.items) }

@@ -16,13 +16,13 @@ loop-lane-preserved g c = record {
   unjudged = unjudged_set c.loop-lane.waiting c.loop-lane.lane c.index-waiting-lane.result c.take_one.new.waiting (omega arith) c.loop-lane.invariant.unjudged c.take_one.ensures.verdicts;
 }
 
-pub returns-in_err-more-clause-taken : goal.returns-in_err-more-clause-taken
-returns-in_err-more-clause-taken g c = λ mids h.
+pub returns-in_default-clause-taken : goal.returns-in_default-clause-taken
+returns-in_default-clause-taken g c = λ mids h.
     let so_far = c.loop-lane.invariant.taken mids h in
     let n = so_far.each_end in
     have_taken_set mids c.loop-lane.ends c.loop-lane.waiting c.loop-lane.lane c.index-ends-lane.result c.take_one.new.rx c.index-waiting-lane.result c.take_one.new.waiting
     (omega (arith, n)) c.take_one.ensures.taken so_far
 
-pub returns-in_err-more-clause-unjudged : goal.returns-in_err-more-clause-unjudged
-returns-in_err-more-clause-unjudged g c =
+pub returns-in_default-clause-unjudged : goal.returns-in_default-clause-unjudged
+returns-in_default-clause-unjudged g c =
     unjudged_set c.loop-lane.waiting c.loop-lane.lane c.index-waiting-lane.result c.take_one.new.waiting (omega arith) c.loop-lane.invariant.unjudged c.take_one.ensures.verdicts

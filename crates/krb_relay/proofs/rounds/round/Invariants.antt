@@ -1,0 +1,10 @@
+use Rattle.std.proofs.Common.{◌≡◌, map}
+use Rattle.krb_relay.specs.Gathering.{lane_of}
+use Rattle.krb_relay.specs.Serving.{Stands}
+use Rattle.krb_relay.proofs.rounds.round.Given as goal
+
+abbrev pub invariant-loop-lane : goal.invariant-loop-lane
+invariant-loop-lane g l = record {
+  stands : Stands l.lane l.fn.starts.value.items l.ends l.receivings l.log;
+  same : map lane_of l.ends ≡ map lane_of l.initial.ends;
+}
