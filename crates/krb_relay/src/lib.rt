@@ -1,11 +1,11 @@
-//! The relay on threads: one to eight senders, each with a worker and a lane of its own, and one thread
-//! that takes their frames.
+//! The relay on threads: one to eight senders, each with a worker and a lane of its own, and one
+//! receiving thread.
 //!
-//! [`relay`] starts a worker for each sender, which seals its texts and sends the frames. The calling
-//! thread takes them in rounds: in each round one item of each lane whose end wasn't taken, by the
-//! lane's number. The frames of different lanes are opened side by side, and logged in the order of
-//! the rounds. The log is the same in every schedule: that of the stepped relay of `krb_core` when it
-//! runs to its end. A [`Gate`] is called before and after each seal call.
+//! [`relay`] starts a worker for each sender, which seals its texts and sends the frames, and
+//! receives in rounds on the calling thread: in each round one item of each lane whose end wasn't
+//! taken, by the lane's number. Where frames are long, those of a round are opened side by side, in
+//! threads that it waits for. The log is the same in every schedule: that of the stepped relay of
+//! `krb_core` when it runs to its end. A [`Gate`] is called before and after each seal call.
 //!
 //! ```rust crates/example_relay/src/main.rt
 //! let sendings = vec![in alloc; first, second]?;
