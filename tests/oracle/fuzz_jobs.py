@@ -12,6 +12,7 @@ MOMENTS = [5, 951_782_400_000_000, jobs.MICROS, jobs.MICROS + 999_994, LAST_MOME
 SIZES = [0, 0, 1, 2, 2, 3, 13, 14, 15, 16, 31, 100, 200, 1000]
 LONG = [[59_999], [65_535], [999_999], [1_000_000], [499_996, 499_996], [499_997, 499_996],
         [999_992, 0], [999_993, 0]]
+OF_LONG_ROUNDS = [17_000, 70_000, 140_000]   # of eight senders or of one these are opened side by side
 ODD_VALUES = ['""', "0", "-1", "17", "1.0", "true", "[]", "[0]", '["0"]', '["00"]', "{}", "{a = 1}",
               "1979-05-27", "07:32", "07:32:60", "1979-02-30", '"2:00"', "[1,\n2,]", "{a = 1,\n}",
               r'"\x41"', "'''a'''", '"""\n00"""', "0x11", "1_7", "1__7", "inf", "1e3",
@@ -202,9 +203,11 @@ def batch_key(dice, sent):
     return None if sent.batch == 1 and dice.random() < 0.9 else sent.batch
 
 
-def lane(dice, most):
+def lane(dice, most, long=False):
     """A sender with its plan, its receiver's moments, and both as a job has them."""
     sent = sender(dice, most)
+    if long:
+        sent.texts += [dice.randbytes(dice.choice(OF_LONG_ROUNDS)) for _ in range(3)]
     sent.plan = plan(dice, sent)
     moments = nows(dice, sent)
     return sent, moments, jobs.sealing(sent, moments, batch=batch_key(dice, sent))
@@ -238,7 +241,8 @@ def seal_job(dice):
 
 def relay_job(dice):
     """A job for `relay`, its lines, and how many frames it emits."""
-    lanes = [lane(dice, 4) for _ in range(dice.choice([1, 1, 2, 2, 3, 8]))]
+    long = dice.random() < 0.03
+    lanes = [lane(dice, 4, long) for _ in range(dice.choice([1, 1, 2, 2, 3, 8]))]
     senders = [sent for sent, _, _ in lanes]
     fault = fault_of(senders)
     pairs = [(sent, moments) for sent, moments, _ in lanes]

@@ -6,3 +6,5 @@ pub mod SentLemmas
 pub mod GatheringLemmas
 pub mod SealedLemmas
 pub mod RelayedLemmas
+pub mod OpeningLemmas
+pub mod WaitingLemmas

@@ -52,6 +52,15 @@ module _ (lane : ℕ) (starts : List Receiving) (ends : List Side) (receivings :
           posts_at starts ends receivings k p.start none p.receiving p h.each_end h.each_receiver lt in
           ap (λ (q : Post). q.rx.ended) (sym post_is) ∙ (sym t.ended ∙ is)
 
+  -- any lane
+  pub moments_of : (k : ℕ) (x : Side) (r : Receiving) → k < length starts → 0 < length (get_or receivings k r).nows.items
+  moments_of k x r lt =
+      let none : Post = post r x r in
+      let P : Post → Type 0 = λ p. IsTied log k p in
+      let t : P (post (get_or starts k r) (get_or ends k x) (get_or receivings k r)) =
+      subst P (posts_at starts ends receivings k r x r none h.each_end h.each_receiver lt) (h.stands.tied k none (let c = count in omega (arith, c, lt))) in
+      rw t.nows t.moments
+
   -- a lane whose turn it is
   module _ (there : lane < length ends) where
     within : lane < length starts

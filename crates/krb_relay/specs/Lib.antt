@@ -2,6 +2,8 @@ pub mod Cause
 pub mod Sent
 pub mod Heard
 pub mod Serving
+pub mod Opening
+pub mod Waiting
 pub mod Sealed
 pub mod Gathering
 pub mod Relayed

@@ -6,6 +6,7 @@ ghost use Rattle.krb_relay.specs.Cause.{cause_of, code_of, words_at};
 use crate::cause::{Cause, OwnCause};
 use krb_base::LANE_LIMIT;
 use krb_peers::Log;
+use std::alloc::AllocError;
 use std::error::Error;
 use std::fmt;
 
@@ -70,6 +71,21 @@ impl OwnFault {
             lane: self.lane,
             log,
             sealed,
+        }
+    }
+}
+
+/// Out of memory where no lane was made, started or served.
+impl From<AllocError> for OwnFault {
+    ghost use Rattle.std.specs.Prelude.{◌≡◌};
+    ghost use Rattle.krb_relay.specs.declared.cause.OwnCause.TheVariants.{Memory};
+
+    ghost from_gives = { λ _ fault. (fault.cause ≡ Memory) × (fault.lane ≡ 0) };
+
+    fn from(_error: AllocError) -> OwnFault {
+        OwnFault {
+            cause: OwnCause::Memory,
+            lane: 0,
         }
     }
 }

@@ -34,7 +34,7 @@ pub(crate) struct Gathered {
 /// its lane.
 ///
 /// The innermost level, which has no part, serves all lanes.
-pub(crate) fn level<'s, 'e, R: Threads + Wait, S: Send + Drop + 's, W: Work<S> + Sync>(
+pub(crate) fn level<'s, 'e, R: Threads + Wait + Sync, S: Send + Drop + 's, W: Work<S> + Sync>(
     scope: &Scope<'s, &'e ()>,
     rt: &'e R,
     alloc: Global,

@@ -1,4 +1,5 @@
 //! The calling thread receives in rounds: each takes one item of each lane whose End wasn't taken.
+//! Where frames are long, those of a round are opened side by side.
 
 ghost use Rattle.std.specs.Prelude.{◌≡◌, ◌↔◌, ◌<◌, ◌+◌, length, map, All, IsTrue, IfErr, IfNone, IfSome, OnOk, OnErr};
 ghost use Rattle.std.specs.List.{AllZip};
@@ -10,14 +11,20 @@ ghost use Rattle.krb_relay.specs.Serving.{Drains, Stands, Stops, Turns, post};
 
 use crate::cause::OwnCause;
 use crate::fault::OwnFault;
+use crate::side_by_side::round_side_by_side;
 use krb_lane::{Item, LaneRx, Lost};
 use krb_peers::{Log, Receiving};
 use std::alloc::Global;
 use std::snapshot::Snapshot;
 use std::sync::Wait;
+use std::thread::Threads;
+
+/// If a round had so many bytes, the frames of the next one are opened side by side. With fewer, threads
+/// would cost more than they save.
+const ENOUGH: usize = 1 << 17;
 
 /// Serves all lanes to their Ends.
-pub(crate) fn serve_all<R: Wait>(
+pub(crate) fn serve_all<R: Threads + Wait + Sync>(
     rt: &R,
     alloc: Global,
     starts: &Snapshot<Vec<Receiving>>,
@@ -35,11 +42,16 @@ pub(crate) fn serve_all<R: Wait>(
     ensures stops { OnErr result (Stops starts.now.value.items ends.old ends.new log.new) }
     ensures same { map lane_of ends.new ≡ map lane_of ends.old }
 {
+    let mut bytes = 0;
     for _ in rt.forever() {
         if all_ended(ends) {
             return Ok(());
         }
-        round(rt, alloc, starts, ends, receivings, log)?;
+        bytes = if bytes < ENOUGH {
+            round(rt, alloc, starts, ends, receivings, log)?
+        } else {
+            round_side_by_side(rt, alloc, starts, ends, receivings, log)?
+        };
     }
     unreachable!()
 }
@@ -51,7 +63,7 @@ fn all_ended(ends: &[LaneRx]) -> bool
     ends.iter().all(|rx| rx.ended())
 }
 
-/// One round.
+/// One round. The result is how many bytes its frames had.
 fn round<R: Wait>(
     rt: &R,
     alloc: Global,
@@ -59,19 +71,21 @@ fn round<R: Wait>(
     ends: &mut [LaneRx],
     receivings: &mut [Receiving],
     log: &mut Log,
-) -> Result<(), OwnFault>
+) -> Result<usize, OwnFault>
     requires { Stands 0 starts.now.value.items ends.old receivings.old log.old }
     ensures ok { OnOk result (Stands 0 starts.now.value.items ends.new receivings.new log.new) }
     ensures err { OnErr result (Stops starts.now.value.items ends.old ends.new log.new) }
     ensures same { map lane_of ends.new ≡ map lane_of ends.old }
 {
+    let mut bytes = 0usize;
     for lane in 0..ends.len() {
-        turn_at(rt, alloc, starts, lane, ends, receivings, log)?;
+        let more = turn_at(rt, alloc, starts, lane, ends, receivings, log)?;
+        bytes = bytes.saturating_add(more);
     }
-    Ok(())
+    Ok(bytes)
 }
 
-/// The turn of a lane in a round.
+/// The turn of a lane in a round. The result is how many bytes its frame had.
 fn turn_at<R: Wait>(
     rt: &R,
     alloc: Global,
@@ -80,7 +94,7 @@ fn turn_at<R: Wait>(
     ends: &mut [LaneRx],
     receivings: &mut [Receiving],
     log: &mut Log,
-) -> Result<(), OwnFault>
+) -> Result<usize, OwnFault>
     requires there { lane < length ends.old }
     requires stands { Stands lane starts.now.value.items ends.old receivings.old log.old }
     ensures ok { OnOk result
@@ -98,7 +112,7 @@ fn turn_at<R: Wait>(
         &mut receivings[lane],
         log,
     ) {
-        Ok(()) => Ok(()),
+        Ok(bytes) => Ok(bytes),
         Err(cause) => Err(OwnFault {
             cause,
             lane: number,
@@ -107,7 +121,7 @@ fn turn_at<R: Wait>(
 }
 
 /// Takes the next item of a lane, unless its End was taken: a frame is judged and its outcome
-/// logged; an End is noted in the log.
+/// logged; an End is noted in the log. The result is how many bytes the frame had.
 fn turn<R: Wait>(
     rt: &R,
     alloc: Global,
@@ -115,7 +129,7 @@ fn turn<R: Wait>(
     rx: &mut LaneRx,
     receiving: &mut Receiving,
     log: &mut Log,
-) -> Result<(), OwnCause>
+) -> Result<usize, OwnCause>
     requires lane { lane < log.old.lanes }
     requires shut { IsShut log.old lane receiving.old.receiver }
     requires moments { 0 < length receiving.old.nows.items }
@@ -126,20 +140,20 @@ fn turn<R: Wait>(
     ensures same { rx.new.lane ≡ rx.old.lane }
 {
     if rx.ended() {
-        return Ok(());
+        return Ok(0);
     }
     match rx.take(rt) {
         Ok(Item::Frame { index, bytes }) => {
             let now = receiving.moment_at(index as usize);
             let receiver = &mut receiving.receiver;
             match receiver.take_into(log, alloc, lane, bytes.as_slice(), now) {
-                Ok(()) => Ok(()),
+                Ok(()) => Ok(bytes.as_slice().len()),
                 Err(_) => Err(OwnCause::Memory),
             }
         }
         Ok(Item::End) => {
             log.end(lane);
-            Ok(())
+            Ok(0)
         }
         Err(Lost) => Err(OwnCause::Lost),
     }

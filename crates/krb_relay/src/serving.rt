@@ -13,10 +13,11 @@ use krb_peers::{Log, Receiving, wipe_receivers};
 use std::alloc::Global;
 use std::snapshot::Snapshot;
 use std::sync::Wait;
+use std::thread::Threads;
 
 /// Serves all lanes to their Ends, and wipes the receivers in place. After a fault of its own it
 /// takes what comes, and drops it.
-pub(crate) fn finish<R: Wait>(
+pub(crate) fn finish<R: Threads + Wait + Sync>(
     rt: &R,
     alloc: Global,
     ends: &mut [LaneRx],

@@ -78,6 +78,15 @@ fn sealer(
     Ok(Box::new(alloc, OddSealer::new(inner, odd, counts)?)?)
 }
 
+/// Texts, each of `size` times one of these bytes.
+fn texts_of(alloc: Global, bytes: &[u8], size: usize) -> Result<Vec<Bytes>, AllocError> {
+    let mut all = Vec::with_capacity(alloc, bytes.len())?;
+    for byte in bytes {
+        all.push(Bytes::new(Vec::from_elem(alloc, *byte, size)?))?;
+    }
+    Ok(all)
+}
+
 /// One end and the other of each lane.
 #[derive(Drop)]
 pub(crate) struct Lanes {
@@ -104,15 +113,37 @@ impl Lanes {
         texts: &[u8],
         batch: usize,
     ) -> Result<(), Fail> {
+        let all = texts_of(alloc, texts, 1)?;
+        self.add_texts(alloc, gate, long, odd, all, batch)
+    }
+
+    /// The same of texts of `size` times the same byte, each in a record of its own.
+    pub(crate) fn add_long(
+        &mut self,
+        alloc: Global,
+        gate: &Watch,
+        odd: Odd,
+        texts: &[u8],
+        size: usize,
+    ) -> Result<(), Fail> {
+        let all = texts_of(alloc, texts, size)?;
+        self.add_texts(alloc, gate, false, odd, all, 1)
+    }
+
+    fn add_texts(
+        &mut self,
+        alloc: Global,
+        gate: &Watch,
+        long: bool,
+        odd: Odd,
+        texts: Vec<Bytes>,
+        batch: usize,
+    ) -> Result<(), Fail> {
         let mode = if long { Mode::Priv } else { Mode::Safe };
         let host = (self.sendings.len() % 8) as u8;
-        let mut all = Vec::new(alloc);
-        for text in texts {
-            all.push(Bytes::new(Vec::from_slice(alloc, &[*text])?))?;
-        }
         self.sendings.push(Sending {
             sealer: sealer(alloc, long, mode, odd, gate, host)?,
-            texts: all,
+            texts,
             batch,
             ats: vec![in alloc; moment()?]?,
             draws: ChaCha20Rng::from_seed([0; 32]),

@@ -2,6 +2,7 @@
 //! log has, that each sealer is dropped once after it was wiped, that each seal call stands within
 //! its own lane, how far a sender seals ahead, and faults of two threads at once.
 
+mod long;
 mod sweep;
 
 use crate::asserts::{assert_log, assert_same, assert_sender};

@@ -1,8 +1,8 @@
-//! A relay whose first sealer refuses a call, where each allocation in turn may fail too: a fault of
-//! the calling thread is told before the worker's, and each lane's count is that of the records that
-//! its worker sealed. `tests/sweep` makes the allocations fail, and counts the lines that report it.
+//! Relays where each allocation in turn may fail. `tests/sweep` makes the allocations fail, and counts
+//! the lines that report it.
 
 use super::PLAIN;
+use super::long::{assert_begins, assert_rounds, lanes_of};
 use crate::asserts::assert_same;
 use crate::lanes::Lanes;
 use crate::watch::{Odd, Watch};
@@ -14,7 +14,9 @@ const REFUSES: Odd = Odd {
     wiped: false,
 };
 
-/// The second lane has no fault of its own, so what names it is the calling thread's.
+/// The first lane's sealer refuses a call: a fault of the calling thread comes before the worker's, and
+/// each lane's count is that of the records that its worker sealed. The second lane has no fault of its
+/// own, so what names it is the calling thread's.
 #[test]
 fn own_fault_is_told_and_each_lane_counts_what_it_sealed(rt: HostRuntime) -> Result<(), Fail> {
     let gate = Watch::new(rt.alloc(), 0)?;
@@ -32,6 +34,28 @@ fn own_fault_is_told_and_each_lane_counts_what_it_sealed(rt: HostRuntime) -> Res
             "refused: relay in threads, {} at lane {}",
             fault.cause, fault.lane
         )?;
+    }
+    Ok(())
+}
+
+/// The rounds of two long texts, which are opened side by side.
+const ROUNDS: [(u32, u8); 4] = [(0, b'a'), (1, b'b'), (0, b'.'), (1, b'.')];
+
+/// Without memory for a thread, the same is done without it. Without memory for a frame the log begins
+/// as that of the whole relay.
+#[test]
+fn long_texts_are_logged_until_memory_is_out(rt: HostRuntime) -> Result<(), Fail> {
+    let gate = Watch::new(rt.alloc(), 0)?;
+    let lanes = lanes_of(rt.alloc(), &gate, &[b"a", b"b"], 0)?;
+    match lanes.run(&rt, rt.alloc(), 1, &gate) {
+        Ok(report) => assert_rounds(&rt, &report.log, &ROUNDS),
+        Err(fault) => {
+            assert_begins(&rt, &fault.log, &ROUNDS);
+            println!(rt;
+                "refused: relay of long texts, {} at lane {}",
+                fault.cause, fault.lane
+            )?;
+        }
     }
     Ok(())
 }

@@ -1,5 +1,5 @@
 -- The receivers at first are those that were given.
-use Rattle.std.proofs.Common.{length, ap, sym, ◌∙◌, subst, List, None, Some}
+use Rattle.std.proofs.Common.{rules, length, ap, sym, ◌∙◌, subst, List, None, Some}
 use Rattle.krb_peers.specs.declared.receiver.Receiving.{Receiving}
 use Rattle.krb_relay.specs.Gathering.{Finished}
 use Rattle.krb_relay.proofs.StandsLemmas.{fresh_stands, finished_well, finished_badly}
@@ -8,7 +8,7 @@ use Rattle.krb_relay.proofs.serving.finish.Goals as goal
 pub serve_all-served-requires : goal.serve_all-served-requires
 serve_all-served-requires g c =
     rw (c.of-starts.ensures, c.as_mut_slice.ensures.value)
-    (fresh_stands c.args.receivings.now.items c.args.ends.now c.args.log.now c.requires.each c.requires.few c.requires.moments c.requires.fresh c.requires.log)
+    (search rules, fresh_stands c.args.receivings.now.items c.args.ends.now c.args.log.now c.requires.each c.requires.few c.requires.moments c.requires.fresh c.requires.log)
 
 pub returns-in-Ok-clause-finished : goal.returns-in-Ok-clause-finished
 returns-in-Ok-clause-finished g c =
