@@ -67,7 +67,7 @@ class Senders(unittest.TestCase):
         self.assertEqual((flow.list, flow.room), (None, 0))
         flow.list = 0
         flow.moved(0, 200)
-        self.assertEqual((flow.list, flow.under_way, flow.room), (0, 200, 56))
+        self.assertEqual((flow.list, flow.under_way, flow.room), (0, 200, 1848))
         with self.assertRaises(ValueError):
             flow.moved(201, 0)
         flow.list = None
