@@ -55,18 +55,38 @@ fn byte_of(event: &Event) -> u8 {
     }
 }
 
-/// Asserts that a log begins as these rounds.
-pub(super) fn assert_begins(rt: &impl Abort, log: &Log, rounds: &[(u32, u8)]) {
-    assert!(rt; log.entries().len() <= rounds.len());
+/// Asserts that a log has these rounds.
+pub(super) fn assert_rounds(rt: &impl Abort, log: &Log, rounds: &[(u32, u8)]) {
+    assert_same(rt, log.entries().len(), rounds.len());
     for (entry, expected) in log.entries().iter().zip(rounds) {
         assert_same(rt, (entry.lane, byte_of(&entry.event)), *expected);
     }
 }
 
-/// Asserts that a log has these rounds.
-pub(super) fn assert_rounds(rt: &impl Abort, log: &Log, rounds: &[(u32, u8)]) {
-    assert_same(rt, log.entries().len(), rounds.len());
-    assert_begins(rt, log, rounds);
+/// What rounds have of a lane at a place among its own, or `None` past its last.
+fn at_place(rounds: &[(u32, u8)], lane: u32, place: usize) -> Option<u8> {
+    let mut passed = 0usize;
+    for (of, byte) in rounds {
+        if *of == lane {
+            if passed == place {
+                return Some(*byte);
+            }
+            passed = passed.wrapping_add(1);
+        }
+    }
+    None
+}
+
+/// Asserts that what a log has of each lane begins as in these rounds.
+pub(super) fn assert_begins(rt: &impl Abort, log: &Log, rounds: &[(u32, u8)]) {
+    let mut places = [0usize; 8];
+    for entry in log.entries() {
+        if let Some(place) = places.get_mut(entry.lane as usize) {
+            let found = Some(byte_of(&entry.event));
+            assert_same(rt, found, at_place(rounds, entry.lane, *place));
+            *place = place.wrapping_add(1);
+        }
+    }
 }
 
 /// Lanes of long texts, of which the last one's sealer refuses this call.

@@ -41,8 +41,8 @@ fn own_fault_is_told_and_each_lane_counts_what_it_sealed(rt: HostRuntime) -> Res
 /// The rounds of two long texts, which are opened side by side.
 const ROUNDS: [(u32, u8); 4] = [(0, b'a'), (1, b'b'), (0, b'.'), (1, b'.')];
 
-/// Without memory for a thread, the same is done without it. Without memory for a frame the log begins
-/// as that of the whole relay.
+/// Without memory for a thread that opens, the same is done without it. Without memory for a frame, what
+/// the log has of each lane begins as in the whole relay.
 #[test]
 fn long_texts_are_logged_until_memory_is_out(rt: HostRuntime) -> Result<(), Fail> {
     let gate = Watch::new(rt.alloc(), 0)?;
