@@ -141,7 +141,7 @@ class TheHeader(unittest.TestCase):
         "opener_unseal_in_place", "now", "sealer_seal_now", "sealer_seal_record_now",
         "peer_seal_now", "receiver_take", "address_from", "is_refusal", "is_supported",
         "clear_stack", "progress_new", "progress_store", "progress_publish", "progress_confirm",
-        "progress_rewind", "place_take", "place_read_again", "strerror")}
+        "progress_rewind", "strerror")}
 
     def test_calls(self):
         declared = set(re.findall(r"^(?:enum \w+ |\w+ |const char \*)(krbrelay_\w+)\(", self.text, re.M))
