@@ -118,7 +118,7 @@ PLANTS = [
     Plant("a pause that ends in 32 bits", HEADER, declares("krbrelay_pause_end"),
           "uint64_t krb", "uint32_t krb", "krbrelay_pause_end, in the module: "),
     Plant("a session's end with one field less", HEADER, r"^struct krbrelay_sending \{.*?\n\};",
-          "    uint64_t window;                    /* from done on leave */\n", "",
+          "    uint64_t window;                    /* so many frames may be under way */\n", "",
           "struct krbrelay_sending, "),
     Plant("a demand of 4", HEADER, "",
           "KRBRELAY_ABSENT_IS_0 = 3 ", "KRBRELAY_ABSENT_IS_0 = 4 ",
