@@ -194,12 +194,13 @@ QUICK = [
     Part("pytest carrier/tests/test_simulation.py", 1, (PYTEST,)),
     Part("pytest tests/test_job_check.py", 1, (PYTEST, CRYPTOGRAPHY)),
     Part("conformance/test --quick", 3, (CRYPTOGRAPHY,)),
-    over_unproved("tools/picture --quick", 1),
-    over_unproved("tests/redelivery --quick", 4, CRYPTOGRAPHY),
-    over_unproved("pytest --quick tests/test_install.py", 1, PYTEST),
+    # The longest first.
     over_unproved("tests/fuzz --quick 300", 5, CRYPTOGRAPHY),
+    over_unproved("tests/redelivery --quick", 4, CRYPTOGRAPHY),
     *(over_unproved(f"pytest --quick --share {it}/{SHARES} tests/test_program.py", 6, COMPILER, PYTEST)
       for it in range(1, SHARES + 1)),
+    over_unproved("tools/picture --quick", 1),
+    over_unproved("pytest --quick tests/test_install.py", 1, PYTEST),
 ]
 
 
