@@ -27,7 +27,7 @@ static void check_replicas(struct nats_carrier *c, uint64_t replicas)
 
 /* ---- A receiver: it waits for no answer */
 
-/* Asks about the stream. What was asked before and wasn't answered is told. */
+/* Asks about the stream. What was asked before and wasn't answered goes into the log. */
 static void ask(struct nats_carrier *c, const char *what, const char *text)
 {
     char reply[128];

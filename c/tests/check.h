@@ -1,4 +1,4 @@
-/* Checks of the tests in C. One that doesn't hold is told with its place, and the last line of a program has the
+/* Checks of the tests in C. One that doesn't hold is printed with its place, and the last line of a program has the
  * counts. Words of the command line may name the tests that are to run: without one, all run. */
 #ifndef CHECK_H
 #define CHECK_H
