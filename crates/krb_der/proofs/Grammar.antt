@@ -26,7 +26,7 @@ use Rattle.krb_der.specs.MessageRef.{owned}
 use Rattle.krb_der.specs.Message.{message, IsMessage, SpellsWithin, Spells, SpellsPart, OneSpelling, UniqueSpelling, Decodes, DecodesBorrowed}
 use Rattle.krb_base.specs.Limits.{frame_limit}
 use Rattle.krb_base.specs.Steps.{◌>>=◌}
-use Rattle.krb_tlv.specs.Reading.{alone, signed, int_of, as_int32, as_below, int32_of, below_of, int32_element_of, below_element_of, octets_of, starts_with, tagged_at, Finds}
+use Rattle.krb_tlv.specs.Reading.{alone, signed, int_of, as_int32, as_below, int32_of, below_of, int32_element_of, below_element_of, octets_of, starts_with, tagged_at}
 use Rattle.krb_der.specs.Reading.{typed_of, address_of, time_element_of, after_of, body_of, safe_of, encrypted_of, private_of, message_of, part_of, FindsSpelt, Gives}
 use Rattle.krb_base.specs.Bytes.{AreBytes}
 use Rattle.krb_time.proofs.Times.{time-found, time-again}

@@ -1,19 +1,17 @@
 -- What the code follows, and no definitions of the standard: sizes, and the pieces that a spelling
 -- is written in. Private functions alone cite this file; the contracts of the encoders are in the
 -- words of Message.antt.
-use Rattle.std.specs.Prelude.{ℕ, ◌+◌, ℤ, List, [], ◌∷◌, ◌++◌, length, Option, IfSome}
-use Rattle.std.specs.List.{concat}
+use Rattle.std.specs.Prelude.{ℕ, ◌+◌, ℤ, List, ◌++◌, length, Option, IfSome}
 use Rattle.krb_der.specs.declared.body.Body.{Body}
 use Rattle.krb_der.specs.declared.safe.SafeMsg.{SafeMsg}
 use Rattle.krb_der.specs.declared.private.PrivMsg.{PrivMsg}
 use Rattle.krb_tlv.specs.Tag.{context, application}
 use Rattle.krb_tlv.specs.UniversalTag.{octet_string_tag, sequence_tag}
 use Rattle.krb_tlv.specs.Writing.{element_size, IsShort}
-use Rattle.krb_tlv.specs.Element.{header, tagged, optional, octets}
+use Rattle.krb_tlv.specs.Element.{header, tagged, optional}
 use Rattle.krb_tlv.specs.Integer.{integer, natural}
 use Rattle.krb_der.specs.KerberosTime.{time}
 use Rattle.krb_der.specs.Address.{host_address}
-use Rattle.krb_der.specs.Body.{body_fields}
 
 -- ---- sizes
 
@@ -50,23 +48,6 @@ before_checksum_size m n =
 
 abbrev pub safe_fields_size : SafeMsg → ℤ → ℕ → ℕ → ℕ
 safe_fields_size m kind k n = before_checksum_size m n + element_size (typed_size kind k)
-
--- ---- a body, around its data
-
-abbrev pub before_data : Body → List ℕ
-before_data b =
-    header sequence_tag (length (concat (body_fields b)))
-    ++ (header (context 0) (length (octets b.user_data))
-    ++ header octet_string_tag (length b.user_data))
-
-abbrev pub fields_after_data : Body → List (List ℕ)
-fields_after_data b =
-    optional (context 1) time b.time
-    ∷ optional (context 2) natural b.usec
-    ∷ optional (context 3) natural b.seq
-    ∷ tagged (context 4) (host_address b.s_addr)
-    ∷ optional (context 5) host_address b.r_addr
-    ∷ []
 
 -- ---- KRB-SAFE, up to its fields, if these have n octets
 

@@ -1,3 +1,5 @@
+//! Network addresses (RFC 4120 section 5.2.5).
+
 ghost use Rattle.std.specs.Prelude.{◌≡◌, ◌↔◌, IsTrue, IfOk};
 ghost use Rattle.krb_der.specs.Address.{IsAddress, same_address};
 ghost use Rattle.krb_tlv.specs.Reading.{Finds};

@@ -1,7 +1,9 @@
+//! What a message carries (RFC 4120 sections 5.6.1 and 5.7.1), and how it is written.
+
 ghost use Rattle.std.specs.Prelude.{◌≡◌, ◌↔◌, ◌<◌, ◌≤◌, ◌+◌, ◌*◌, ◌++◌, length, Some, IfOk, OnOk, IfSome, IsTrue};
 ghost use Rattle.std.specs.List.{concat};
 ghost use Rattle.krb_base.specs.Limits.{frame_limit};
-ghost use Rattle.krb_tlv.specs.Element.{optional};
+ghost use Rattle.krb_tlv.specs.Element.{optional, tagged};
 ghost use Rattle.krb_time.specs.Moment.{secs_of, usec_of};
 ghost use Rattle.krb_time.specs.Time.{IsSecond};
 ghost use Rattle.krb_der.specs.KerberosTime;
@@ -10,7 +12,7 @@ ghost use Rattle.krb_der.specs.Body.{InRange, IsBody, body, body_fields};
 ghost use Rattle.krb_der.specs.Reading.{body_with};
 ghost use Rattle.krb_der.specs.Size.{HasAddressesWithinLimit};
 ghost use Rattle.krb_tlv.specs.Writing.{IsShort};
-ghost use Rattle.krb_der.specs.Writing.{IsShortBody, before_data, body_fields_size, body_size, fields_after_data};
+ghost use Rattle.krb_der.specs.Writing.{IsShortBody, body_fields_size, body_size};
 
 use crate::address::{AddressRef, HostAddress, known_address};
 use crate::tag;
@@ -365,24 +367,13 @@ impl<'a> BodyRef<'a> {
         size_around(self.fields_size())
     }
 
-    /// Adds what comes before the data.
-    pub(crate) fn write_before_data(&self, out: &mut Writer) -> Result<(), AllocError>
+    /// Adds its fields.
+    fn write_fields(&self, out: &mut Writer) -> Result<(), AllocError>
         requires short { IsShortBody self.now }
         requires time { IfSome self.now.time IsSecond }
-        ensures { OnOk result (out.new ≡ out.old ++ before_data self.now) }
+        ensures { OnOk result (out.new ≡ out.old ++ concat (body_fields self.now)) }
     {
-        let data = self.user_data.len();
-        out.begin(tag::SEQUENCE, self.fields_size())?;
-        out.begin(tag::FIELD_0, size_around(data))?;
-        out.begin(tag::OCTET_STRING, data)
-    }
-
-    /// Adds the fields after the data.
-    pub(crate) fn write_after_data(&self, out: &mut Writer) -> Result<(), AllocError>
-        requires short { IsShortBody self.now }
-        requires time { IfSome self.now.time IsSecond }
-        ensures { OnOk result (out.new ≡ out.old ++ concat (fields_after_data self.now)) }
-    {
+        out.octets_field(tag::FIELD_0, self.user_data)?;
         write_optional_time(out, tag::FIELD_1, self.time)?;
         write_natural_field(out, tag::FIELD_2, self.usec)?;
         write_natural_field(out, tag::FIELD_3, self.seq)?;
@@ -390,14 +381,15 @@ impl<'a> BodyRef<'a> {
         write_optional_address(out, tag::FIELD_5, &self.r_addr)
     }
 
-    /// Adds it.
-    pub(crate) fn write(&self, out: &mut Writer) -> Result<(), AllocError>
+    /// Adds it as the content of an element with this tag.
+    pub(crate) fn write_in(&self, out: &mut Writer, tag: u8) -> Result<(), AllocError>
         requires short { IsShortBody self.now }
         requires time { IfSome self.now.time IsSecond }
-        ensures { OnOk result (out.new ≡ out.old ++ body self.now) }
+        ensures { OnOk result (out.new ≡ out.old ++ tagged tag (body self.now)) }
     {
-        self.write_before_data(out)?;
-        out.put(self.user_data)?;
-        self.write_after_data(out)
+        let fields = self.fields_size();
+        out.begin(tag, size_around(fields))?;
+        out.begin(tag::SEQUENCE, fields)?;
+        self.write_fields(out)
     }
 }

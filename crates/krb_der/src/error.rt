@@ -1,3 +1,5 @@
+//! Why bytes are no message, or a value isn't spelt.
+
 ghost use Rattle.std.specs.Prelude.{◌≡◌, Some};
 ghost use Rattle.krb_der.specs.declared.error.DerError.TheVariants.{Memory};
 ghost use Rattle.krb_der.specs.Error.{error_code, error_words};

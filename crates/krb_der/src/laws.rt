@@ -1,3 +1,5 @@
+//! Laws of the grammar: one spelling for each value, and how many bytes a message has at most.
+
 ghost use Rattle.krb_der.specs.Earlier.{SpellsAsEarlier, PartSpellsAsEarlier};
 ghost use Rattle.krb_der.specs.Message.{OneSpelling, Spells, SpellsPart, UniqueSpelling};
 ghost use Rattle.krb_der.specs.Reading.{FindsSpelt, message_of, part_of};

@@ -1,3 +1,5 @@
+//! A message: KRB-SAFE or KRB-PRIV (RFC 4120 sections 5.6.1 and 5.7.1).
+
 ghost use Rattle.std.specs.Prelude.{◌≡◌, IfOk, MatchResult};
 ghost use Rattle.krb_der.specs.declared.error.DerError.TheVariants.{Memory};
 ghost use Rattle.krb_der.specs.declared.message.Message.{Message as MessageValue};

@@ -63,14 +63,12 @@ impl<'a> BodyRef<'a> {
     }
 
     /// Adds its spelling as an encrypted part.
-    #[tactic(auto, unfolding(krb_tlv::specs::Element::tagged))]
     pub(crate) fn write_part(&self, out: &mut Writer) -> Result<(), AllocError>
         requires short { IsShortBody self.now }
         requires time { IfSome self.now.time IsSecond }
         ensures { OnOk result (out.new ≡ out.old ++ part self.now) }
     {
-        out.begin(tag::ENC_KRB_PRIV_PART, self.size())?;
-        self.write(out)
+        self.write_in(out, tag::ENC_KRB_PRIV_PART)
     }
 
     /// Its spelling as an encrypted part, in a `Vec` with room for so many bytes.

@@ -1,3 +1,5 @@
+//! KRB-PRIV (RFC 4120 section 5.7.1).
+
 ghost use Rattle.std.specs.Prelude.{◌≡◌, ◌<◌, ◌≤◌, ◌+◌, ◌++◌, [], length, Err, IfOk, IfSome, OnOk, OnErr};
 ghost use Rattle.krb_base.specs.Limits.{frame_limit};
 ghost use Rattle.krb_der.specs.declared.message.Message.TheVariants.{Priv};

@@ -1,3 +1,5 @@
+//! KRB-SAFE (RFC 4120 section 5.6.1).
+
 ghost use Rattle.std.specs.Prelude.{◌≡◌, ◌<◌, ◌≤◌, ◌+◌, ◌*◌, ◌++◌, [], length, drop, IfOk, IfSome, OnOk};
 ghost use Rattle.krb_base.specs.Limits.{frame_limit};
 ghost use Rattle.krb_der.specs.declared.message.Message.TheVariants.{Safe};
@@ -294,8 +296,7 @@ impl<'a> SafeRef<'a> {
     {
         write_int32_field(out, tag::FIELD_0, &self.pvno)?;
         write_int32_field(out, tag::FIELD_1, &self.msg_type)?;
-        out.begin(tag::FIELD_2, self.body.size())?;
-        self.body.write(out)
+        self.body.write_in(out, tag::FIELD_2)
     }
 
     /// Its draft for a sequence of `fields` bytes, in a `Vec` with room for the whole message.

@@ -81,8 +81,9 @@ pub fn write_typed_field(
     requires { IsShort bytes.now }
     ensures { OnOk result (out.new ≡ out.old ++ tagged tag (typed_octets kind.now bytes.now)) }
 {
-    out.begin(tag, typed_size(kind, bytes))?;
-    out.begin(tag::SEQUENCE, fields_size(kind, bytes))?;
+    let fields = fields_size(kind, bytes);
+    out.begin(tag, size_around(fields))?;
+    out.begin(tag::SEQUENCE, fields)?;
     write_int32_field(out, tag::FIELD_0, kind)?;
     out.octets_field(tag::FIELD_1, bytes)
 }

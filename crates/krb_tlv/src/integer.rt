@@ -185,9 +185,15 @@ impl Signed {
         ensures { OnOk result
             (out.new ≡ out.old ++ tagged tag (integer (signed self.now.negative self.now.n))) }
     {
-        let octets = self.octets();
-        out.begin(tag, self.size())?;
-        out.element(tag::INTEGER, &octets[5 - width_of(u64::from(self.n))..])
+        let n = self.n;
+        let [e, d, c, b, a] = self.octets();
+        match width_of(u64::from(n)) {
+            1 => out.put(&[tag, 3, tag::INTEGER, 1, a]),
+            2 => out.put(&[tag, 4, tag::INTEGER, 2, b, a]),
+            3 => out.put(&[tag, 5, tag::INTEGER, 3, c, b, a]),
+            4 => out.put(&[tag, 6, tag::INTEGER, 4, d, c, b, a]),
+            _ => out.put(&[tag, 7, tag::INTEGER, 5, e, d, c, b, a]),
+        }
     }
 }
 

@@ -1,3 +1,5 @@
+//! Reading of elements from left to right (X.690 section 8.1).
+
 ghost use Rattle.std.specs.Prelude.{◌≡◌, Some};
 ghost use Rattle.krb_tlv.specs.Reading.{Finds, Takes, ended, tagged_at, field_at, alone, octets_of, starts_with};
 

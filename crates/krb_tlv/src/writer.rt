@@ -1,3 +1,5 @@
+//! Writing of elements from left to right (X.690 section 8.1).
+
 ghost use Rattle.std.specs.Prelude.{◌≡◌, ◌+◌, ◌<◌, ◌≤◌, ◌^◌, ◌++◌, [], length, IfOk, OnOk};
 ghost use Rattle.krb_tlv.specs.Element.{header, octets, tagged};
 ghost use Rattle.krb_tlv.specs.Writing.{IsShort, element_size};
@@ -53,10 +55,14 @@ impl Writer {
     }
 
     /// Adds what comes before a content of so many bytes: its tag and its length.
+    #[tactic(auto, unfolding(crate::specs::Element::header, crate::specs::Length::length_octets))]
     pub fn begin(&mut self, tag: u8, content: usize) -> Result<(), AllocError>
         requires { content < 2 ^ 24 }
         ensures { OnOk result (self.new ≡ self.old ++ header tag content) }
     {
+        if content < 128 {
+            return self.put(&[tag, content as u8]);
+        }
         self.put(Header::new(tag, content).as_slice())
     }
 

@@ -1,5 +1,4 @@
 use Rattle.std.proofs.Common.{arith}
-use Rattle.krb_base.specs.Bytes.{AreBytes}
 use Rattle.krb_der.specs.MessageRef.{owned}
 use Rattle.krb_der.proofs.Grammar.{message_found, message_absent}
 use Rattle.krb_der.proofs.message.decode_borrowed.Goals as goal

@@ -1,4 +1,4 @@
-use Rattle.std.proofs.Common.{◌≡◌, ◌∙◌, List, ℕ, ap, refl, arith, length}
+use Rattle.std.proofs.Common.{◌∙◌, List, ℕ, ap, refl, arith, length}
 use Rattle.krb_der.specs.declared.safe.SafeMsg.{SafeMsg}
 use Rattle.krb_der.specs.Typed.{typed_octets}
 use Rattle.krb_der.proofs.SafeDrafts.{fields_in, front_size, last_size, length-message, short_message}
