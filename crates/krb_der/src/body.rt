@@ -81,8 +81,8 @@ fn write_optional_time(out: &mut Writer, tag: u8, time: Option<u64>) -> Result<(
 {
     match time {
         Some(secs) => {
-            out.begin(tag, 17)?;
-            out.element(tag::GENERALIZED_TIME, &kerberos_time(secs))
+            out.put(&[tag, 17, tag::GENERALIZED_TIME, 15])?;
+            out.put(&kerberos_time(secs))
         }
         None => Ok(()),
     }

@@ -1,7 +1,8 @@
 //! Identifier octets: those of the messages (RFC 4120 section 5.10), and those of all DER.
 
 pub use krb_tlv::{
-    FIELD_0, FIELD_1, FIELD_2, FIELD_3, FIELD_4, FIELD_5, GENERALIZED_TIME, OCTET_STRING, SEQUENCE,
+    FIELD_0, FIELD_1, FIELD_2, FIELD_3, FIELD_4, FIELD_5, GENERALIZED_TIME, INTEGER, OCTET_STRING,
+    SEQUENCE,
 };
 
 /// KRB-SAFE, `[APPLICATION 20]`.

@@ -1,7 +1,7 @@
 //! Bytes with their type, the shape of HostAddress and of Checksum (RFC 4120 sections 5.2.5 and
 //! 5.2.9).
 
-ghost use Rattle.std.specs.Prelude.{◌≡◌, ◌<◌, ◌≤◌, ◌+◌, ◌++◌, length, OnOk};
+ghost use Rattle.std.specs.Prelude.{◌≡◌, ◌<◌, ◌≤◌, ◌+◌, ◌++◌, ℕ, List, length, pos, OnOk};
 ghost use Rattle.std.specs.List.{concat};
 ghost use Rattle.krb_tlv.specs.Element.{tagged};
 ghost use Rattle.krb_der.specs.Typed.{typed_fields, typed_octets};
@@ -17,6 +17,9 @@ use krb_tlv::{
     write_int32_field,
 };
 use std::alloc::AllocError;
+
+/// A field with a type and so many bytes has no length of more than one octet.
+const MOST_SHORT: usize = 116;
 
 /// The type and the bytes that the bytes spell.
 #[tactic(auto, unfolding(crate::specs::Reading::typed_of))]
@@ -71,6 +74,30 @@ pub fn typed_size(kind: &i32, bytes: &[u8]) -> usize
     size_around(fields_size(kind, bytes))
 }
 
+/// What stands before the bytes of a field with a type, if there are few and the type is small.
+fn short_front(tag: u8, kind: u8, count: u8) -> [u8; 13]
+    requires kind { kind < 128 }
+    requires count { count ≤ 116 }
+    ensures { (bytes : List ℕ) → length bytes ≡ count
+        → tagged tag (typed_octets (pos kind) bytes) ≡ result ++ bytes }
+{
+    [
+        tag,
+        count + 11,
+        tag::SEQUENCE,
+        count + 9,
+        tag::FIELD_0,
+        3,
+        tag::INTEGER,
+        1,
+        kind,
+        tag::FIELD_1,
+        count + 2,
+        tag::OCTET_STRING,
+        count,
+    ]
+}
+
 /// Adds a field with a type and bytes.
 pub fn write_typed_field(
     out: &mut Writer,
@@ -81,6 +108,10 @@ pub fn write_typed_field(
     requires { IsShort bytes.now }
     ensures { OnOk result (out.new ≡ out.old ++ tagged tag (typed_octets kind.now bytes.now)) }
 {
+    if *kind >= 0 && *kind < 128 && bytes.len() <= MOST_SHORT {
+        out.put(&short_front(tag, *kind as u8, bytes.len() as u8))?;
+        return out.put(bytes);
+    }
     let fields = fields_size(kind, bytes);
     out.begin(tag, size_around(fields))?;
     out.begin(tag::SEQUENCE, fields)?;
