@@ -579,6 +579,67 @@ def untried(copy):
             if ": not all tried" in line]
 
 
+# Edits of a crate: a file, what is replaced, and by what. The first change no code, the others do.
+SAME_CODE = {
+    "a comment of the file": ("src/bytes.rt", "//! ", "//! Another sentence. "),
+    "a comment of a function": ("src/limits.rt", "/// The most bytes of a text.\n", ""),
+    "a comment after code": ("src/limits.rt", "= 1_000_000;", "= 1_000_000; // more"),
+    "a blank line": ("src/limits.rt", "\n\n", "\n\n\n"),
+    "a comment of definitions": ("specs/Limits.antt", "\ntext_limit = ", "\n-- more\ntext_limit = "),
+    "a blank line of definitions": ("specs/Limits.antt", "\ntext_limit = ", "\n\ntext_limit = "),
+}
+OTHER_CODE = {
+    "a line of code": ("src/limits.rt", "= 1_000_000;", "= 1_000_001;"),
+    "a line of code that was a comment": ("src/lib.rt", "\nmod bytes;", "\n// mod bytes;"),
+    "a clause": ("src/limits.rt", "ensures text { TEXT_LIMIT ≡ text_limit }", "ensures text { text_limit ≡ TEXT_LIMIT }"),
+    "a definition": ("specs/Limits.antt", "\ntext_limit = ", "\ntext_limit = 1 + "),
+    "a table": ("mutants.toml", "\n[", "\n\n["),
+}
+
+
+def after_edit(copy, file, old, new):
+    """The crates whose mutants have to be tried after one place of krb_base is edited, which is then undone."""
+    path = copy.path("crates", "krb_base", file)
+    with open(path, encoding="utf-8") as opened:
+        before = opened.read()
+    assert old in before, "the text stands there"
+    with open(path, "w", encoding="utf-8") as opened:
+        opened.write(before.replace(old, new, 1))
+    found = untried(copy)
+    with open(path, "w", encoding="utf-8") as opened:
+        opened.write(before)
+    return found
+
+
+@pytest.fixture(scope="module")
+def with_note():
+    """A copy in which the mutants of krb_base were tried."""
+    with tempfile.TemporaryDirectory() as folder:
+        made = Copy(folder)
+        add_further(made, "krb_base")
+        assert are_refused(made, "krb_base", BOTH) and not untried(made)
+        yield made
+
+
+@pytest.mark.parametrize("what", SAME_CODE)
+def test_a_changed_comment_keeps_the_note(with_note, what):
+    assert not after_edit(with_note, *SAME_CODE[what])
+
+
+@pytest.mark.parametrize("what", OTHER_CODE)
+def test_changed_code_asks_for_a_new_try(with_note, what):
+    assert after_edit(with_note, *OTHER_CODE[what]) == ["krb_base"]
+
+
+@pytest.mark.parametrize("code", ['"// {}"', r'"\" // {}"', """['"', '/'] "// {}" """, r"""'\'' "// {}" """])
+def test_what_begins_like_a_comment_in_a_string_is_code(code):
+    assert tables.without_comments(code.format("one")) != tables.without_comments(code.format("two"))
+
+
+def test_comments_are_left_out():
+    assert tables.without_comments("//! one\n\na // two\n    /// three\n\n  b  c\n") == "a\nb c"
+
+
 @pytest.fixture(scope="module")
 def with_mutants():
     with tempfile.TemporaryDirectory() as folder:
@@ -610,10 +671,9 @@ def test_notes_of_mutants(copy):
     with open(copy.path(*table), "w", encoding="utf-8") as file:
         file.write(before)
     assert are_refused(copy, "krb_base", BOTH) and not untried(copy), "and none of it stays"
-    for what, *path in (("source", "crates", "krb_base", "src", "lib.rt"), ("table", *table)):
-        copy.append("\n", *path)
-        assert untried(copy) == ["krb_base"] and are_refused(copy, "krb_base", BOTH) and not untried(copy), \
-            f"another {what} asks for a new try"
+    copy.append("\n", *table)
+    assert untried(copy) == ["krb_base"] and are_refused(copy, "krb_base", BOTH) and not untried(copy), \
+        "another table asks for a new try"
     assert (are_refused(copy, "krb_base", BOTH, copy.path("crates", "krb_base", "src", "lib.rt"))
             and untried(copy) == ["krb_base"] and are_refused(copy, "krb_base", BOTH) and not untried(copy)), \
         "a source that changes meanwhile asks for a new try"

@@ -495,12 +495,12 @@ def of_keys():
 
 # What a file begins with that says what it is, by its ending. A file of C leaves it to the header of its name.
 BEGINS = {"c": r"/\*", "h": r"/\*|//", "rs": "//!", "go": r"//(?!go:)|//go:build .*\n\npackage \w+\n\n//", "rattle": "//!",
-          "py": r'(?:#!.*\n)?"""'}
-UNSAID = re.compile(r"/out/|/target/|/__init__\.py$|^carrier/shard_load\.c")
+          "rt": "//!", "py": r'(?:#!.*\n)?"""'}
+UNSAID = re.compile(r"/out/|/target/|/__init__\.py$|^carrier/shard_load\.c|^crates/krb_(?:der|tlv)/")
 
 
 def of_first_lines():
-    """Each source says at its head what it is. Those of crates aren't asked: a line there asks for proofs anew."""
+    """Each source says at its head what it is."""
     for ending, begin in BEGINS.items():
         for path in sorted(glob.glob(os.path.join(building.TOP, "**", f"*.{ending}"), recursive=True)):
             name = os.path.relpath(path, building.TOP)

@@ -1,6 +1,6 @@
-// The inverse cipher on pairs of blocks, each pair in one vector of 32 bytes: each step is that of
-// inverse_cipher.rt in both blocks. The compiler makes of such a vector what the processor has: two
-// vectors of 16 bytes, or one of 32. Two pairs are decrypted side by side.
+//! The inverse cipher on pairs of blocks, each pair in one vector of 32 bytes: each step is that of
+//! inverse_cipher.rt in both blocks. The compiler makes of such a vector what the processor has: two
+//! vectors of 16 bytes, or one of 32. Two pairs are decrypted side by side.
 
 ghost use Rattle.std.specs.Prelude.{◌≡◌, ℕ, ◌+◌, ◌-◌, ◌*◌, ◌/◌, ◌≤◌, ◌++◌, List, length, drop, map, bit_and};
 ghost use Rattle.krb_aes.specs.Field.{times};

@@ -1,9 +1,9 @@
-// InvSubBytes (FIPS 197, section 5.3.2) on vectors of 16 bytes, read from tables of 16 bytes as
-// SubBytes is.
-//
-// Between the rounds of the inverse cipher the S-box's affine map is undone already, so that the
-// inverse S-box of a byte is the inverse of what its nibbles mean. tests/vector_tables.py computes
-// the tables.
+//! InvSubBytes (FIPS 197, section 5.3.2) on vectors of 16 bytes, read from tables of 16 bytes as
+//! SubBytes is.
+//!
+//! Between the rounds of the inverse cipher the S-box's affine map is undone already, so that the
+//! inverse S-box of a byte is the inverse of what its nibbles mean. tests/vector_tables.py computes
+//! the tables.
 
 ghost use Rattle.std.specs.Prelude.{◌≡◌, List, ℕ, map};
 ghost use Rattle.krb_aes.specs.Field.{times};

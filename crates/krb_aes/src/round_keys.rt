@@ -1,5 +1,5 @@
-// The words of an expanded key in the forms in which the rounds on vectors take them
-// (specs/Rounds.antt).
+//! The words of an expanded key in the forms in which the rounds on vectors take them
+//! (specs/Rounds.antt).
 
 ghost use Rattle.std.specs.Prelude.{◌≡◌, ℕ, ◌+◌, ◌*◌, ◌/◌, ◌%◌, ◌≤◌, List, length, map};
 ghost use Rattle.krb_aes.specs.Cipher.{sub_bytes};

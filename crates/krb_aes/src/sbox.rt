@@ -1,12 +1,12 @@
-// SubBytes (FIPS 197, section 5.1.1) on vectors of 16 bytes. It is read from tables of 16 bytes
-// that lie in vectors, so that no address and no branch depends on a byte, as in "Accelerating AES
-// with Vector Permute Instructions" (Hamburg, 2009).
-//
-// A byte is split into two elements of the field of 16 elements, its nibbles (specs/Nibbles.antt).
-// The inverse of a byte is then a matter of a few look-ups by nibbles: they give two places, and
-// what is sought of the inverse is the sum of what two tables give, one at each place. Each pair
-// of tables below is named after what it gives. tests/vector_tables.py computes all the tables,
-// and compares them with these.
+//! SubBytes (FIPS 197, section 5.1.1) on vectors of 16 bytes. It is read from tables of 16 bytes
+//! that lie in vectors, so that no address and no branch depends on a byte, as in "Accelerating AES
+//! with Vector Permute Instructions" (Hamburg, 2009).
+//!
+//! A byte is split into two elements of the field of 16 elements, its nibbles (specs/Nibbles.antt).
+//! The inverse of a byte is then a matter of a few look-ups by nibbles: they give two places, and
+//! what is sought of the inverse is the sum of what two tables give, one at each place. Each pair
+//! of tables below is named after what it gives. tests/vector_tables.py computes all the tables,
+//! and compares them with these.
 
 ghost use Rattle.std.specs.Prelude.{◌≡◌, ◌/◌, List, ℕ, map, bit_xor, bit_and};
 ghost use Rattle.krb_aes.specs.Field.{sbox};

@@ -1,7 +1,7 @@
-// The round keys of an expanded key whose words are all zero, of both sizes and directions, in the
-// forms that the rounds take. A wiped schedule encrypts by these, and they hold no secret. What
-// isn't zero in them is what the forms make of the S-box's constant 0x63: its nibbles, the constant
-// itself, and its nibbles with the affine map undone.
+//! The round keys of an expanded key whose words are all zero, of both sizes and directions, in the
+//! forms that the rounds take. A wiped schedule encrypts by these, and they hold no secret. What
+//! isn't zero in them is what the forms make of the S-box's constant 0x63: its nibbles, the constant
+//! itself, and its nibbles with the affine map undone.
 
 const FORWARD_ONE: [u8; 16] = [0x6e; 16];
 

@@ -1,3 +1,5 @@
+//! The laws of a lane: what was sent, got and queued after any events.
+
 ghost use Rattle.std.specs.Prelude.{◌≡◌, ◌≤◌, ◌++◌, ℕ, true, false, List, length};
 ghost use Rattle.krb_base.specs.Prefix.{IsPrefix};
 ghost use Rattle.krb_base.specs.Lane.{Lane, Event, empty, has_end, is_possible, moved, after_event, after, Always, IsEndLast};

@@ -1,3 +1,5 @@
+//! The limits of texts, messages, jobs and lanes, and a law that they are those of the definitions.
+
 ghost use Rattle.std.specs.Prelude.{◌≡◌};
 ghost use Rattle.krb_base.specs.Limits.{text_limit, user_data_limit, frame_limit, raw_limit, address_limit, last_number};
 ghost use Rattle.krb_base.specs.Limits.{lane_limit, capacity_limit, skew_limit, texts_limit, batch_limit, batch_size_limit, entries_limit};

@@ -1,3 +1,5 @@
+//! The laws of prefixes of lists.
+
 ghost use Rattle.std.specs.Prelude.{◌≡◌, ◌≤◌, ◌++◌, List, length};
 ghost use Rattle.krb_base.specs.Prefix.{IsPrefix};
 

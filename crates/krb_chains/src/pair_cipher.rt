@@ -1,5 +1,5 @@
-// The cipher on pairs of blocks, each in one vector of 32 bytes: each step is that of cipher.rt in both
-// blocks, which are of different chains. Two pairs go side by side.
+//! The cipher on pairs of blocks, each in one vector of 32 bytes: each step is that of cipher.rt in both
+//! blocks, which are of different chains. Two pairs go side by side.
 
 ghost use Rattle.std.specs.Prelude.{◌≡◌, ℕ, ◌+◌, ◌*◌, ◌%◌, ◌≤◌, List, length, map, bit_xor};
 ghost use Rattle.krb_aes.specs.Field.{sbox};

@@ -27,34 +27,34 @@ abbrev pub key_of_type : Etype → List ℕ → Option TypedKey
 key_of_type etype bytes =
     if length bytes == key_size etype then Some (typed_key etype bytes) else None
 
--- the first of two that there is
+-- the first one if there is one, else the second
 abbrev pub or_else : {A : Type 0} → Option A → Option A → Option A
 or_else (Some x) other = Some x
 or_else None other = other
 
--- the bytes as a key of the type whose keys have as many
+-- the bytes as a key of the type whose keys are as long
 abbrev pub key_of_bytes : List ℕ → Option TypedKey
 key_of_bytes bytes = or_else (key_of_type Aes128 bytes) (key_of_type Aes256 bytes)
 
--- the key of a file: what its digits spell, else its bytes themselves
+-- the key of a file: the bytes that its hexadecimal digits spell, or else the bytes of the file
 abbrev pub key_in : List ℕ → Option TypedKey
 key_in file =
     or_else (option_and_then key_of_bytes (result_ok (decode_of (digits_of file))))
     (key_of_bytes file)
 
--- the type is the one that is stated, if one is
+-- no type is stated, or this one is
 abbrev pub IsStated : Option Etype → Etype → Type 0
 IsStated None etype = ⊤
 IsStated (Some wanted) etype = etype ≡ wanted
 
--- the file holds a key of another type
+-- the file holds a key, and another type than the key's is stated
 abbrev pub HasOtherType : Option Etype → List ℕ → Type 0
 HasOtherType stated file =
     (key : TypedKey) × (key_in file ≡ Some key) × (IsStated stated key.etype → ⊥)
 
 -- ---- what it opens
 
--- the key behind a reference, where there is one
+-- the key that is referred to, if there is one
 abbrev pub key_of : Option (Bor TypedKey) → Option TypedKey
 key_of key = option_map (λ k. k.now) key
 
@@ -76,8 +76,8 @@ abbrev pub mode_of : Message → Mode
 mode_of (messages.Safe m) = Safe
 mode_of (messages.Priv m) = Priv
 
--- What is inside the message that the bytes spell: where there is a key, what opening it without
--- demands gives.
+-- What is inside the message that the bytes spell. Without a key it isn't asked; under a key it is what
+-- an opener that demands nothing gives.
 abbrev pub IsInside : Option TypedKey → Message → List ℕ → Inside → Type 0
 IsInside None message bytes Unasked = ⊤
 IsInside None message bytes (Opened body) = ⊥

@@ -1,3 +1,5 @@
+//! HMAC-SHA1-96 (RFC 3962, section 6) of eight texts at a time, under one key.
+
 ghost use Rattle.std.specs.Prelude.{◌≡◌, ℕ, ◌<◌, List, take};
 ghost use Rattle.krb_digests.specs.Lanes.{message, texts};
 ghost use Rattle.krb_keys.specs.Hmac.{hmac, hmac96};

@@ -1,3 +1,6 @@
+//! Key derivation, DR and DK (RFC 3961, section 5.1), and the three keys of a key usage (section
+//! 5.3).
+
 ghost use Rattle.std.specs.Prelude.{◌≡◌, ◌++◌, length};
 ghost use Rattle.krb_aes.specs.Keys.{expanded_key};
 ghost use Rattle.krb_keys.specs.Derivation.{constant, dk, dr};

@@ -1,3 +1,5 @@
+//! The comparison of two message codes, which doesn't end at the first byte that differs.
+
 ghost use Rattle.std.specs.Prelude.{◌≡◌, ◌↔◌, IsTrue};
 
 /// Whether two message codes are equal. If they have one length, it reads every byte.

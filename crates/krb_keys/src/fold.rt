@@ -1,3 +1,5 @@
+//! n-fold (RFC 3961, section 5.1): bytes folded to another length.
+
 ghost use Rattle.std.specs.Prelude.{◌≡◌, ℕ, ◌+◌, ◌-◌, ◌*◌, ◌/◌, ◌%◌, ◌^◌, ◌<◌, ◌≤◌, length, slice_index};
 ghost use Rattle.krb_keys.specs.Nfold.{number, lcm, IsLcm, nfold};
 ghost use Rattle.krb_keys.specs.Stream.{rotated_byte, stream_byte, around};

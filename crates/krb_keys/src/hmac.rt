@@ -1,3 +1,5 @@
+//! HMAC-SHA1 (RFC 2104) of one text, and its first 12 bytes (RFC 3962, section 6).
+
 ghost use Rattle.std.specs.Prelude.{◌≡◌, ℕ, List, length};
 ghost use Rattle.krb_keys.specs.Hmac.{hmac, hmac96, joined};
 

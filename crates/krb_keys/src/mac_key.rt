@@ -1,3 +1,6 @@
+//! A key for HMAC-SHA1 that is used for several texts: both hashes are kept after the padded key
+//! (RFC 2104, section 4).
+
 ghost use Rattle.std.specs.Prelude.{◌≡◌, ℕ, List, map, bit_xor};
 ghost use Rattle.sha1.specs.Sha1.{Holds};
 ghost use Rattle.krb_keys.specs.Hmac.{key_block, pad, hmac, hmac96, joined};

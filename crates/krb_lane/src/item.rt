@@ -1,3 +1,5 @@
+//! What goes through a lane: a frame or the end.
+
 use krb_base::Bytes;
 
 /// An item that goes through a lane.

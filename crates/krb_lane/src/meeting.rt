@@ -1,3 +1,5 @@
+//! Both ends of a lane brought together after its end: what was got is a prefix of what was sent.
+
 ghost use Rattle.std.specs.Prelude.{◌≡◌, ◌≤◌, ◌+◌, true, length};
 ghost use Rattle.krb_base.specs.Prefix.{IsPrefix};
 

@@ -1,3 +1,5 @@
+//! How a lane is made: its two ends over one bounded channel.
+
 ghost use Rattle.std.specs.Prelude.{◌≡◌, ◌<◌, ◌≤◌, [], ◌∷◌, true, false, Some, IfOk};
 ghost use Rattle.krb_base.specs.Limits.{capacity_limit};
 ghost use Rattle.crossbeam_channel.specs.Claims.{view, IsSeatAt};

@@ -1,4 +1,5 @@
-// What each step of the channel does to the view of its pass.
+//! What each step of the channel does to the view of its pass.
+
 ghost use Rattle.std.specs.Prelude.{ℕ};
 
 use crate::item::Item;

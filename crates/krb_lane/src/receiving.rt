@@ -1,3 +1,5 @@
+//! The receiving end of a lane.
+
 ghost use Rattle.std.specs.Prelude.{◌≡◌, true, length, Some, Ok, IfOk, OnErr};
 ghost use Rattle.krb_lane.specs.Errors.{words_of_lost};
 ghost use Rattle.krb_lane.specs.Side.{Takes as Taken};

@@ -1,4 +1,5 @@
-// The rule of a lane, and that each of its steps keeps it.
+//! The rule of a lane, and that each of its steps keeps it.
+
 ghost use Rattle.krb_lane.specs.Steps.{KeepsLane};
 
 use crate::item::Item;

@@ -1,3 +1,5 @@
+//! The sending end of a lane after its last item.
+
 ghost use Rattle.std.specs.Prelude.{◌≡◌, length};
 
 use crate::item::Item;

@@ -1,3 +1,5 @@
+//! Texts in order, as a batch carries them.
+
 ghost use Rattle.std.specs.Prelude.{◌≡◌};
 
 use krb_base::Bytes;

@@ -1,4 +1,4 @@
-// KerberosTime (RFC 4120 section 5.2.3): the fifteen bytes YYYYMMDDHHMMSSZ of a second.
+//! KerberosTime (RFC 4120 section 5.2.3): the fifteen bytes YYYYMMDDHHMMSSZ of a second.
 
 ghost use Rattle.std.specs.Prelude.{◌≡◌, ◌↔◌, ◌<◌, ◌≤◌, ◌*◌, ℕ, List, pos, Some, IfSome, option_map};
 ghost use Rattle.jiff.specs.Words.{civil_nanos};

@@ -50,11 +50,11 @@ lib | run)
 check)
     note "check $name"
     if diff -r src "$ORIGINAL/crates/$name/src" > /dev/null; then echo "logic=proved"; exit; fi
-    cat "$SAYS"; [ -z "$CHANGES" ] || echo >> "$CHANGES"
+    cat "$SAYS"; [ -z "$CHANGES" ] || echo "mod more;" >> "$CHANGES"
     exit 1 ;;
 ci)
     note "begin ci"
-    cat "$SAYS"; [ -z "$CHANGES" ] || echo >> "$CHANGES"
+    cat "$SAYS"; [ -z "$CHANGES" ] || echo "mod more;" >> "$CHANGES"
     if [ -n "$CI_AWAITS" ]; then
         for turn in $(seq 600); do
             [ "$(sed '1,/^begin ci$/d' "$NOTES" | grep -c '^end ')" -lt "$CI_AWAITS" ] || break

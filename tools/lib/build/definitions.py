@@ -71,13 +71,18 @@ def imported(text: str) -> dict[str, frozenset[Name]]:
     return found
 
 
+def is_blank(line: str) -> bool:
+    """Whether a line of definitions or of a proof says nothing to the prover: it is empty or a comment."""
+    return not line.strip() or line.lstrip().startswith("--")
+
+
 @functools.cache
 def read(path: str) -> File:
     text = building.text_of(path)
     lines: dict[str, str] = {}
     last = HEAD
     for line in text.splitlines():
-        if not line.strip() or line.lstrip().startswith("--") or USE.match(line):
+        if is_blank(line) or USE.match(line):
             continue
         begins = BEGINS.match(line)
         if begins and (begins[1] or begins[3] or begins[2] in lines):

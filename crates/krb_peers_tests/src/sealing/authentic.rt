@@ -1,3 +1,5 @@
+//! The body of an authentic frame, of which nothing is demanded, and the refusals of other frames.
+
 use super::frames::{
     PRIV_17, PRIV_18, PRIV_CUT_PART, PRIV_EMPTY, SAFE_17, SAFE_LONG_CHECKSUM, SAFE_NO_NUMBER,
     SAFE_NO_TIME, SAFE_NO_USEC, SAFE_TIMELESS, SAFE_TO_RECEIVER,

@@ -1,3 +1,5 @@
+//! Addresses (HostAddress of RFC 4120, section 5.2.5): made, cloned and compared.
+
 use super::{SAFE, decode_safe};
 use crate::asserts::assert_same_at;
 use krb_der::HostAddress;

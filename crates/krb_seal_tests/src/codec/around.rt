@@ -1,3 +1,5 @@
+//! A KRB-PRIV whose encrypted part is written where its cipher will be.
+
 use super::{PART, SAFE, decode_safe};
 use crate::asserts::assert_same;
 use krb_der::{Body, Bytes, DerError, Draft, Message, PrivMsg, decode, draft_priv};
