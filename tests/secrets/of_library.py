@@ -2,6 +2,7 @@
 undefined. The program is linked to the archive, and where the processor has x86-64-v3 also to the shared
 object for it. Each run tells where that one was loaded: a place in it is the distance from there, and so
 the same in each run."""
+import dataclasses
 import os
 import subprocess
 
@@ -12,7 +13,6 @@ import memcheck
 
 KINDS = [(name, etype, mode) for etype in (17, 18) for name, mode in (("safe", 20), ("priv", 21))]
 CONTROL = 3             # the places of the part `control`: one of each secret
-PLANTED = "krbrelay_receiver_take"      # what branches on a key where a frame is large, if it is planted
 # Those of `refuse`, of each mode: the branch on the outcome of the comparison. Of KRB-SAFE one where a
 # call demands nothing first and one where it demands the body; and the use of the outcome in each of the
 # seven calls, whose answer it is.
@@ -121,29 +121,53 @@ class Calls:
         self.opening(self.has("refuse", OUTCOMES[self.name]))
 
 
-def planted(folder, prefix, count):
-    """A branch on a key that large frames alone get to is reported."""
-    plant = os.path.join(building.TOP, "tests", "secrets", "c", "large.c")
-    words = [plant, *(f"-Wl,--wrap={it}" for it in ("krbrelay_receiver_new", PLANTED))]
-    program = build(folder, prefix, [*words, *archive_of(prefix)], "planted")
+@dataclasses.dataclass(frozen=True)
+class Plant:
+    """A branch on a key in a C file around two calls, which a part has to show."""
+    file: str
+    made: str           # the call that is given the key
+    call: str           # the call that branches on it
+    part: str
+    what: str
+
+
+PLANTS = (
+    Plant("large.c", "krbrelay_receiver_new", "krbrelay_receiver_take", "refuse", "frames of over 512 bytes"),
+    Plant("many.c", "krbrelay_sealer_new", "krbrelay_sealer_seal_many", "seal", "many messages in one call"),
+)
+
+
+def planted(folder, linked, plant, count):
+    """A branch on a key that is planted around one call is reported."""
+    source = os.path.join(building.TOP, "tests", "secrets", "c", plant.file)
+    words = [source, *(f"-Wl,--wrap={it}" for it in (plant.made, plant.call))]
+    program = build(folder, linked.prefix, [*words, *linked.words], f"planted_{plant.call}")
     calls = Calls(folder, program, count, KINDS[-1])
-    found = {it for it in calls.places("refuse") if it.function == f"__wrap_{PLANTED}"}
-    count.told(len(found) == 1, f"planted for frames of over 512 bytes, {calls.what}: {len(found)} of 1"
-               " places is reported")
+    found = {it for it in calls.places(plant.part) if it.function == f"__wrap_{plant.call}"}
+    count.told(len(found) == 1, f"planted for {plant.what}, {calls.what}: {len(found)} of 1 places is reported")
+
+
+@dataclasses.dataclass(frozen=True)
+class Linked:
+    """How a program is linked to an object of the library at a prefix."""
+    prefix: str
+    words: list[str]
 
 
 def watch(folder, prefix):
     count = report.Count()
-    watch_one(folder, build(folder, prefix, archive_of(prefix)), count)
+    watch_one(folder, Linked(prefix, archive_of(prefix)), count)
     if has_v3():
         print("for x86-64-v3:")
-        watch_one(folder, build(folder, prefix, object_of_v3(prefix)), count)
+        watch_one(folder, Linked(prefix, object_of_v3(prefix)), count)
     else:
         print("skipped: the object for x86-64-v3, which this processor or its loader doesn't have")
-    planted(folder, prefix, count)
     return count
 
 
-def watch_one(folder, program, count):
+def watch_one(folder, linked, count):
+    program = build(folder, linked.prefix, linked.words)
     for kind in KINDS:
         Calls(folder, program, count, kind).watch()
+    for plant in PLANTS:
+        planted(folder, linked, plant, count)

@@ -348,7 +348,8 @@ impl<'a> BodyRef<'a> {
         size_around(self.fields_size_with(len))
     }
 
-    fn fields_size(&self) -> usize
+    /// How many bytes its fields have.
+    pub(crate) fn fields_size(&self) -> usize
         requires short { IsShortBody self.now }
         requires time { IfSome self.now.time IsSecond }
         ensures value { result ≡ length (concat (body_fields self.now)) }
@@ -381,13 +382,19 @@ impl<'a> BodyRef<'a> {
         write_optional_address(out, tag::FIELD_5, &self.r_addr)
     }
 
-    /// Adds it as the content of an element with this tag.
-    pub(crate) fn write_in(&self, out: &mut Writer, tag: u8) -> Result<(), AllocError>
+    /// Adds it as the content of an element with this tag; its fields have so many bytes.
+    pub(crate) fn write_in(
+        &self,
+        out: &mut Writer,
+        tag: u8,
+        fields: usize,
+    ) -> Result<(), AllocError>
         requires short { IsShortBody self.now }
         requires time { IfSome self.now.time IsSecond }
+        requires fields { fields ≡ length (concat (body_fields self.now)) }
+        requires bound { fields ≤ 3 * frame_limit + 200 }
         ensures { OnOk result (out.new ≡ out.old ++ tagged tag (body self.now)) }
     {
-        let fields = self.fields_size();
         out.begin(tag, size_around(fields))?;
         out.begin(tag::SEQUENCE, fields)?;
         self.write_fields(out)

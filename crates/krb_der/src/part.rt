@@ -68,7 +68,7 @@ impl<'a> BodyRef<'a> {
         requires time { IfSome self.now.time IsSecond }
         ensures { OnOk result (out.new ≡ out.old ++ part self.now) }
     {
-        self.write_in(out, tag::ENC_KRB_PRIV_PART)
+        self.write_in(out, tag::ENC_KRB_PRIV_PART, self.fields_size())
     }
 
     /// Its spelling as an encrypted part, in a `Vec` with room for so many bytes.

@@ -5,7 +5,8 @@ ghost use Rattle.krb_base.specs.Limits.{frame_limit};
 ghost use Rattle.krb_der.specs.declared.message.Message.TheVariants.{Safe};
 ghost use Rattle.krb_tlv.specs.Integer.{IsInt32};
 ghost use Rattle.krb_time.specs.Time.{IsSecond};
-ghost use Rattle.krb_der.specs.Body.{InRange, IsBody};
+ghost use Rattle.std.specs.List.{concat};
+ghost use Rattle.krb_der.specs.Body.{InRange, IsBody, body_fields};
 ghost use Rattle.krb_der.specs.Safe.{before_checksum, checksum_field, with_checksum, without_checksum};
 ghost use Rattle.krb_der.specs.Message.{safe_input};
 ghost use Rattle.krb_der.specs.Message.{Covers, DraftsSafe, Encodes, Spells, message};
@@ -288,22 +289,27 @@ impl<'a> SafeRef<'a> {
         size_around(size_around(self.fields_size_with(&self.cksum_type, checksum, len)))
     }
 
-    /// Adds the fields before the checksum.
-    fn write_before_checksum(&self, out: &mut Writer) -> Result<(), AllocError>
+    /// Adds the fields before the checksum; those of the body have so many bytes.
+    fn write_before_checksum(&self, out: &mut Writer, body: usize) -> Result<(), AllocError>
         requires short { IsShortBody self.now.body }
         requires time { IfSome self.now.body.time IsSecond }
+        requires body { body ≡ length (concat (body_fields self.now.body)) }
+        requires bound { body ≤ 3 * frame_limit + 200 }
         ensures { OnOk result (out.new ≡ out.old ++ before_checksum self.now) }
     {
         write_int32_field(out, tag::FIELD_0, &self.pvno)?;
         write_int32_field(out, tag::FIELD_1, &self.msg_type)?;
-        self.body.write_in(out, tag::FIELD_2)
+        self.body.write_in(out, tag::FIELD_2, body)
     }
 
-    /// Its draft for a sequence of `fields` bytes, in a `Vec` with room for the whole message.
-    fn draft_of(&self, alloc: Global, fields: usize) -> Result<SafeDraft, AllocError>
+    /// Its draft for a sequence of `fields` bytes, in a `Vec` with room for the whole message. The fields of
+    /// its body have `body` bytes.
+    fn draft_of(&self, alloc: Global, fields: usize, body: usize) -> Result<SafeDraft, AllocError>
         requires limit { fields ≤ 4 * frame_limit + 300 }
         requires short { IsShortBody self.now.body }
         requires time { IfSome self.now.body.time IsSecond }
+        requires body { body ≡ length (concat (body_fields self.now.body)) }
+        requires bound { body ≤ 3 * frame_limit + 200 }
         ensures start { IfOk result (λ draft. draft.start ≡ length (safe_headers fields)) }
         ensures bytes { IfOk result (λ draft. draft.bytes.items
             ≡ safe_headers fields ++ before_checksum self.now) }
@@ -313,11 +319,26 @@ impl<'a> SafeRef<'a> {
         out.begin(tag::KRB_SAFE, content)?;
         out.begin(tag::SEQUENCE, fields)?;
         let start = out.len();
-        self.write_before_checksum(&mut out)?;
+        self.write_before_checksum(&mut out, body)?;
         Ok(SafeDraft {
             bytes: out.into_vec(),
             start,
         })
+    }
+
+    /// How many bytes its fields have around those of its body.
+    fn fields_size_around(&self, kind: &i32, checksum: usize, body: usize) -> usize
+        requires checksum_limit { checksum ≤ frame_limit }
+        requires body { body ≡ length (concat (body_fields self.now.body)) }
+        requires bound { body ≤ 3 * frame_limit + 200 }
+        ensures value { result ≡ safe_fields_size self.now kind.now checksum
+            (length self.now.body.user_data) }
+        ensures bound { result ≤ 4 * frame_limit + 300 }
+    {
+        int32_field_size(&self.pvno)
+            + int32_field_size(&self.msg_type)
+            + size_around(size_around(body))
+            + size_around(typed_size_of(kind, checksum))
     }
 
     /// Its draft for a checksum of this type and so many bytes.
@@ -331,11 +352,12 @@ impl<'a> SafeRef<'a> {
         if !self.body.is_short() {
             return Err(DerError::TooLong);
         }
-        let fields = self.fields_size_with(kind, checksum, self.body.user_data().len());
+        let body = self.body.fields_size();
+        let fields = self.fields_size_around(kind, checksum, body);
         if size_around(size_around(fields)) > FRAME_LIMIT {
             return Err(DerError::TooLong);
         }
-        Ok(self.draft_of(alloc, fields)?)
+        Ok(self.draft_of(alloc, fields, body)?)
     }
 
     /// Its spelling with this checksum in place of its own.

@@ -124,6 +124,26 @@ static size_t two_texts(uint8_t *batch, size_t room)
     return size;
 }
 
+/* One message of each size in one call: some side by side, and some that are left over. */
+static void seal_together(struct krbrelay_sealer *sealer)
+{
+    enum { COUNT = sizeof sizes / sizeof sizes[0], MORE = 500 };
+    static uint8_t frames[COUNT * (LONGEST + MORE)];
+    struct krbrelay_unsealed messages[COUNT] = { 0 };
+    size_t made[KRBRELAY_MOST_MESSAGES], failed, whole = 0;
+    for (size_t i = 0; i < COUNT; i++) {
+        messages[i].user_data = text;
+        messages[i].user_data_len = sizes[i];
+        messages[i].at = now;
+        memcpy(messages[i].confounder, confounder, sizeof confounder);
+    }
+    has_answered(krbrelay_sealer_seal_many(sealer, messages, COUNT, frames, sizeof frames, made, &failed),
+                 KRBRELAY_OK, "sealer_seal_many");
+    for (size_t i = 0; i < COUNT; i++)
+        whole += made[i];
+    publish(frames, whole);
+}
+
 static void make_peer(struct krbrelay_peer *peer)
 {
     struct krbrelay_session session = { .mode = mode, .first = NUMBER, .sender = host(2) };
@@ -157,12 +177,14 @@ static void seal(void)
     make_sealer(&sealer);
     for (size_t i = 0; i < sizeof sizes / sizeof sizes[0]; i++)
         (void)sealed(&sealer, sizes[i]);
+    seal_together(&sealer);
     (void)sealed_record(&sealer, KRBRELAY_TEXT, text, 50);
     (void)sealed_record(&sealer, KRBRELAY_BATCH, batch, two_texts(batch, sizeof batch));
     has_answered(krbrelay_sealer_next(&sealer, &next), KRBRELAY_OK, "sealer_next");
     has_answered(krbrelay_sealer_frame_size(&sealer, 50, &now, &size), KRBRELAY_OK, "sealer_frame_size");
     has_answered(krbrelay_sealer_set_mode(&sealer, other[mode - KRBRELAY_SAFE]), KRBRELAY_OK, "set_mode");
     (void)sealed(&sealer, 100);
+    seal_together(&sealer);
     (void)sealed_record(&sealer, KRBRELAY_CLOSE, NULL, 0);
     krbrelay_sealer_wipe(&sealer);
     krbrelay_sealer_free(&sealer);

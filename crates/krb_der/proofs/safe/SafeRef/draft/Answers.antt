@@ -13,19 +13,19 @@ returns-then-not-is_short c =
 
 pub returns-then-size_around-gt-FRAME_LIMIT : goal.returns-then-size_around-gt-FRAME_LIMIT
 returns-then-size_around-gt-FRAME_LIMIT c =
-    let is : c.fields_size_with-fields.result ≡ safe_fields_size c.args.self.now c.args.kind.now c.args.checksum (length c.args.self.now.body.user_data) = search rules in
-    over_limit c.args.self.now c.args.kind.now c.args.checksum c.fields_size_with-fields.result is (omega (arith, c.size_around-2.ensures.value, ap element_size c.size_around.ensures.value, c.if-size_around-gt-FRAME_LIMIT.true))
+    let is : c.fields_size_around-fields.result ≡ safe_fields_size c.args.self.now c.args.kind.now c.args.checksum (length c.args.self.now.body.user_data) = search rules in
+    over_limit c.args.self.now c.args.kind.now c.args.checksum c.fields_size_around-fields.result is (omega (arith, c.size_around-2.ensures.value, ap element_size c.size_around.ensures.value, c.if-size_around-gt-FRAME_LIMIT.true))
 
 pub returns-in_err-draft_of : goal.returns-in_err-draft_of
 returns-in_err-draft_of c =
-    let is : c.fields_size_with-fields.result ≡ safe_fields_size c.args.self.now c.args.kind.now c.args.checksum (length c.args.self.now.body.user_data) = search rules in
+    let is : c.fields_size_around-fields.result ≡ safe_fields_size c.args.self.now c.args.kind.now c.args.checksum (length c.args.self.now.body.user_data) = search rules in
     draft_memory c.args.self.now c.args.kind.now c.args.checksum c.from_residual.result c.from_residual.ensures.1
-    (within_limit c.args.self.now c.args.kind.now c.args.checksum c.fields_size_with-fields.result is (omega (arith, c.size_around-2.ensures.value, ap element_size c.size_around.ensures.value, c.if-size_around-gt-FRAME_LIMIT.false)))
+    (within_limit c.args.self.now c.args.kind.now c.args.checksum c.fields_size_around-fields.result is (omega (arith, c.size_around-2.ensures.value, ap element_size c.size_around.ensures.value, c.if-size_around-gt-FRAME_LIMIT.false)))
 
 pub returns : goal.returns
 returns c =
-    let is : c.fields_size_with-fields.result ≡ safe_fields_size c.args.self.now c.args.kind.now c.args.checksum (length c.args.self.now.body.user_data) = search rules in
-    drafted c.args.self.now c.args.kind.now c.args.checksum c.fields_size_with-fields.result c.in_ok-draft_of.field-0 is
+    let is : c.fields_size_around-fields.result ≡ safe_fields_size c.args.self.now c.args.kind.now c.args.checksum (length c.args.self.now.body.user_data) = search rules in
+    drafted c.args.self.now c.args.kind.now c.args.checksum c.fields_size_around-fields.result c.in_ok-draft_of.field-0 is
     (omega (arith, c.size_around-2.ensures.value, ap element_size c.size_around.ensures.value, c.if-size_around-gt-FRAME_LIMIT.false))
     (λ sum. record { pvno = c.known.ensures.pvno; msg_type = c.known.ensures.msg_type; body = c.known.ensures.body; cksum_type = c.known_int32.ensures })
     c.in_ok-draft_of.ensures.start c.in_ok-draft_of.ensures.bytes
