@@ -141,9 +141,22 @@ static void note_unaccepted(struct shard *s, struct receiving *of, const struct 
         stands(s, of);
 }
 
-/* A frame was refused. Out of memory and the like is no refusal: -1. */
+/* Whether a refused frame is the session's, and its number: 1, 0 or -1 as `look` answers. One that passes all
+ * checks but the number's was opened already. */
+static int find_number(struct shard *s, struct receiving *of, const struct carried *it,
+                       enum krbrelay_answer answer, uint64_t *number)
+{
+    if (answer == KRBRELAY_AFTER_CLOSE)
+        return 0;
+    if (answer != KRBRELAY_BADORDER || *number == UINT64_MAX)
+        return look(s, of, it, number);
+    of->has_opened = 1;
+    return 1;
+}
+
+/* A frame was refused, and this number was told. Out of memory and the like is no refusal: -1. */
 static int take_refusal(struct shard *s, struct receiving *of, const struct carried *it,
-                        enum krbrelay_answer answer)
+                        enum krbrelay_answer answer, uint64_t number)
 {
     struct krbrelay_seen seen = { 0 };
     uint32_t outcome = 0;
@@ -152,10 +165,11 @@ static int take_refusal(struct shard *s, struct receiving *of, const struct carr
         report_answer("frame_unopened", it->session, of->end.drafted.number, answer);
         return -1;
     }
-    opens = answer == KRBRELAY_AFTER_CLOSE ? 0 : look(s, of, it, &seen.opened);
+    opens = find_number(s, of, it, answer, &number);
     if (opens < 0)
         return -1; /* the frames are read again */
-    seen.has_opened = (uint32_t)opens;
+    if (opens)
+        seen = (struct krbrelay_seen){ .opened = number, .has_opened = 1 };
     if (krbrelay_receiving_take(&of->end, it->frame, it->len, &seen, &outcome) != KRBRELAY_OK)
         return -1;
     note_unaccepted(s, of, it, &seen, outcome, answer);
@@ -304,6 +318,7 @@ static int is_before_turn(struct shard *s, const struct receiving *of)
 static int take(struct shard *s, struct receiving *of, const struct carried *it)
 {
     enum krbrelay_answer answer;
+    uint64_t number = UINT64_MAX;
     uint32_t kind = 0;
     size_t size = 0;
     int done;
@@ -314,9 +329,9 @@ static int take(struct shard *s, struct receiving *of, const struct carried *it)
         return take_before_turn(s, of, it);
     if (make_receiver(s, of) != 0)
         return -1;
-    answer = krbrelay_receiver_take(&of->receiver, it->frame, it->len, &s->moment, &kind, s->bytes,
-                                    KRBRELAY_FRAME_LIMIT, &size);
-    done = answer == KRBRELAY_OK ? 0 : take_refusal(s, of, it, answer);
+    answer = krbrelay_receiver_take_numbered(&of->receiver, it->frame, it->len, &s->moment, &kind, s->bytes,
+                                             KRBRELAY_FRAME_LIMIT, &size, &number);
+    done = answer == KRBRELAY_OK ? 0 : take_refusal(s, of, it, answer, number);
     s->counts.opening += lap(s);
     return answer == KRBRELAY_OK ? take_accepted(s, of, it, kind, size) : done;
 }

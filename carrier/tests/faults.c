@@ -59,26 +59,29 @@ enum krbrelay_answer __wrap_krbrelay_opener_open(struct krbrelay_opener *handle,
     return __real_krbrelay_opener_open(handle, frame, len, demand, at, user_data, room, size, carried);
 }
 
-enum krbrelay_answer __real_krbrelay_receiver_take(struct krbrelay_receiver *handle,
-                                                   const uint8_t *frame, size_t len,
-                                                   const struct krbrelay_moment *at, uint32_t *kind,
-                                                   uint8_t *bytes, size_t room, size_t *size);
-enum krbrelay_answer __wrap_krbrelay_receiver_take(struct krbrelay_receiver *handle,
-                                                   const uint8_t *frame, size_t len,
-                                                   const struct krbrelay_moment *at, uint32_t *kind,
-                                                   uint8_t *bytes, size_t room, size_t *size);
+enum krbrelay_answer __real_krbrelay_receiver_take_numbered(struct krbrelay_receiver *handle,
+                                                            const uint8_t *frame, size_t len,
+                                                            const struct krbrelay_moment *at, uint32_t *kind,
+                                                            uint8_t *bytes, size_t room, size_t *size,
+                                                            uint64_t *number);
+enum krbrelay_answer __wrap_krbrelay_receiver_take_numbered(struct krbrelay_receiver *handle,
+                                                            const uint8_t *frame, size_t len,
+                                                            const struct krbrelay_moment *at, uint32_t *kind,
+                                                            uint8_t *bytes, size_t room, size_t *size,
+                                                            uint64_t *number);
 
-enum krbrelay_answer __wrap_krbrelay_receiver_take(struct krbrelay_receiver *handle,
-                                                   const uint8_t *frame, size_t len,
-                                                   const struct krbrelay_moment *at, uint32_t *kind,
-                                                   uint8_t *bytes, size_t room, size_t *size)
+enum krbrelay_answer __wrap_krbrelay_receiver_take_numbered(struct krbrelay_receiver *handle,
+                                                            const uint8_t *frame, size_t len,
+                                                            const struct krbrelay_moment *at, uint32_t *kind,
+                                                            uint8_t *bytes, size_t room, size_t *size,
+                                                            uint64_t *number)
 {
     static int had;
     const char *ahead = getenv("TAKEN_AHEAD");
     struct krbrelay_moment now = *at;
     if (ahead != NULL && __sync_add_and_fetch(&had, 1) == atoi(ahead))
         now.seconds += 1000000;
-    return __real_krbrelay_receiver_take(handle, frame, len, &now, kind, bytes, room, size);
+    return __real_krbrelay_receiver_take_numbered(handle, frame, len, &now, kind, bytes, room, size, number);
 }
 
 static int happens(const struct faulty *c)

@@ -1,7 +1,7 @@
 /* What a shard takes of frames, among them those of an independent sealer, that nothing of a transaction is
  * stored if an effect of it fails, and what is left in memory:
  *     shard_test FOLDER
- * Built with -Wl,--wrap=free. */
+ * Built with -Wl,--wrap=free,--wrap=krbrelay_opener_open. */
 #include "check.h"
 #include "effects.h"
 #include "shard.h"
@@ -28,6 +28,26 @@ void __wrap_free(void *block)
         left += ((const uint8_t *)block)[i] != 0;
     freed += block != NULL && block == watched;
     __real_free(block);
+}
+
+enum krbrelay_answer __real_krbrelay_opener_open(struct krbrelay_opener *handle, const uint8_t *frame, size_t len,
+                                                 const struct krbrelay_demand *demand,
+                                                 const struct krbrelay_moment *at, uint8_t *user_data,
+                                                 size_t room, size_t *size, struct krbrelay_carried *carried);
+enum krbrelay_answer __wrap_krbrelay_opener_open(struct krbrelay_opener *handle, const uint8_t *frame, size_t len,
+                                                 const struct krbrelay_demand *demand,
+                                                 const struct krbrelay_moment *at, uint8_t *user_data,
+                                                 size_t room, size_t *size, struct krbrelay_carried *carried);
+
+static int opened;              /* frames that were opened beside the receiver */
+
+enum krbrelay_answer __wrap_krbrelay_opener_open(struct krbrelay_opener *handle, const uint8_t *frame, size_t len,
+                                                 const struct krbrelay_demand *demand,
+                                                 const struct krbrelay_moment *at, uint8_t *user_data,
+                                                 size_t room, size_t *size, struct krbrelay_carried *carried)
+{
+    opened++;
+    return __real_krbrelay_opener_open(handle, frame, len, demand, at, user_data, room, size, carried);
 }
 
 static struct sessions *sessions_in(const char *folder)
@@ -160,6 +180,24 @@ static void test_failing_effect(struct shard *shard, struct carrier *carrier, sq
     check(told(store, "SELECT next FROM session WHERE name = 'tom'") == NUMBER + 2, "and its number is passed");
 }
 
+/* The receiver tells the number of a frame that fails no other check, so it isn't opened once more. One that fails
+ * another check is. */
+static void test_opened_once(struct shard *shard, struct carrier *carrier)
+{
+    int before = opened;
+    uint64_t repeats = shard->counts.repeats, early = shard->counts.early;
+    publish_texts(carrier, NUMBER + 1, 2);
+    publish_texts(carrier, NUMBER + 5, 2);
+    take(shard);
+    check(shard->counts.repeats == repeats + 1, "a frame that comes again is a repeat");
+    check(shard->counts.early == early + 1, "one that comes too early is known");
+    check(opened == before, "neither is opened twice");
+    publish(carrier, safe_17_timeless, sizeof safe_17_timeless);
+    take(shard);
+    check(opened == before + 1, "one without a time is, and its number tells that it is a repeat");
+    check(shard->counts.repeats == repeats + 2, "so it is counted");
+}
+
 int main(int count, char **words)
 {
     static char store[4096], where[4096];
@@ -183,6 +221,7 @@ int main(int count, char **words)
           && sqlite3_busy_timeout(asked, 2000) == SQLITE_OK, "its store is opened beside it");
     test_times(&shard, carrier);
     test_failing_effect(&shard, carrier, asked);
+    test_opened_once(&shard, carrier);
     check(sqlite3_close(asked) == SQLITE_OK, "it is closed");
     watched = shard.bytes;
     memset(shard.bytes, 'x', KRBRELAY_FRAME_LIMIT);
