@@ -1,7 +1,7 @@
 """Tests how programs and the C library are proved and built: the order of proofs, and that no tool
 takes what isn't proved from the present sources for what is; the goals of mutants; and the table of
 tools. The tools run in a copy of the repository, in which scripts take the place of the kit
-(tools/lib/build/copied.py)."""
+(tests/copied.py)."""
 import os
 import shutil
 import signal
@@ -16,7 +16,7 @@ import pytest
 from lib import parts, scripts
 from lib.build import building, groups, proving
 from lib.build import mutants as tables
-from lib.build.copied import LIMIT, TO_END, Copy, are_left, started
+from copied import LIMIT, TO_END, Copy, are_left, started
 
 GB = 1 << 30
 # What the last line says of a program that isn't proved.

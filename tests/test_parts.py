@@ -1,6 +1,6 @@
 """Tests how tools/test runs its parts: in which order, how many at once, what it prints of one that
 fails, and that none is left when it ends. It runs in a copy of the repository, in which scripts take
-the place of the kit (tools/lib/build/copied.py) and of each tool that is a part."""
+the place of the kit (tests/copied.py) and of each tool that is a part."""
 import os
 import re
 import signal
@@ -13,7 +13,7 @@ import pytest
 
 from lib import parts
 from lib.build import building, proving
-from lib.build.copied import TO_END, Copy, are_left, started, write_script
+from copied import TO_END, Copy, are_left, started, write_script
 
 # What takes the place of a part. It notes that it begins and ends, that its priority isn't $PRIORITY,
 # and that the file $ASKS is there, if so, and prints many lines. One that $FAILS names fails, and says
