@@ -4,7 +4,7 @@
 //! Each value has one spelling, and each spelling one value: [`decode`] reads exactly what the
 //! grammar spells, and [`encode_safe`], [`encode_priv`] and [`encode_part`] write it. [`decode_borrowed`] reads the
 //! same and copies nothing: the byte strings lie in the bytes that were given. So bytes that spell
-//! nothing are told as malformed whether or not there is memory.
+//! nothing are refused as malformed whether or not there is memory.
 //!
 //! ```rust crates/krb_seal_tests/src/codec.rt
 //! fn decode_safe(alloc: Global, bytes: &[u8]) -> Result<SafeMsg, DerError> {
