@@ -1,4 +1,4 @@
-//! A round whose frames are opened side by side.
+//! Rounds whose frames are opened side by side.
 
 ghost use Rattle.std.specs.Prelude.{◌≡◌, map, All, OnOk, OnErr};
 ghost use Rattle.krb_relay.specs.Gathering.{lane_of};
@@ -8,7 +8,7 @@ ghost use Rattle.krb_relay.specs.Waiting.{HaveTaken, IsUnjudged};
 use crate::fault::OwnFault;
 use crate::logging::log_all;
 use crate::opening::open_lanes;
-use crate::taking::take_round;
+use crate::taking::take_rounds;
 use crate::waiting::{Waiting, none_waiting};
 use krb_lane::LaneRx;
 use krb_peers::{Log, Receiving};
@@ -17,9 +17,9 @@ use std::snapshot::Snapshot;
 use std::sync::Wait;
 use std::thread::Threads;
 
-/// One round: an item of each lane is taken, the frames are opened side by side, and then they are logged
-/// in the order of the lanes. The result is how many bytes they had.
-pub(crate) fn round_side_by_side<R: Threads + Wait + Sync>(
+/// Some rounds: an item of each lane is taken in each, the frames are opened side by side, and then they are
+/// logged round by round. The result is how many bytes the last round had.
+pub(crate) fn rounds_side_by_side<R: Threads + Wait + Sync>(
     rt: &R,
     alloc: Global,
     starts: &Snapshot<Vec<Receiving>>,
@@ -54,7 +54,7 @@ fn take_open_and_log<R: Threads + Wait + Sync>(
     ensures err { OnErr result (Stops starts.now.value.items ends.old ends.new log.new) }
     ensures same { map lane_of ends.new ≡ map lane_of ends.old }
 {
-    let bytes = take_round(rt, ends, waiting);
+    let bytes = take_rounds(rt, ends, waiting);
     open_lanes(rt, alloc, receivings, waiting);
     log_all(rt, waiting, log)?;
     Ok(bytes)

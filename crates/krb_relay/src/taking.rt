@@ -1,7 +1,8 @@
 //! What the calling thread takes in a round: one item of each lane whose End wasn't taken.
 
-ghost use Rattle.std.specs.Prelude.{◌≡◌, List, length, All};
+ghost use Rattle.std.specs.Prelude.{◌≡◌, ◌↔◌, List, length, All, IsTrue};
 ghost use Rattle.krb_lane.specs.Side.{Side};
+ghost use Rattle.krb_relay.specs.Gathering.{IsEnded};
 ghost use Rattle.krb_relay.specs.Waiting.{HasTaken, HaveTaken, IsUnjudged};
 
 use crate::cause::OwnCause;
@@ -9,10 +10,52 @@ use crate::waiting::{Last, Waiting};
 use krb_lane::{Item, LaneRx, Lost};
 use std::sync::Wait;
 
+/// No further round is taken once the frames that wait have so many bytes.
+const ENOUGH: usize = 1 << 17;
+
+/// The most rounds that are taken before the log is written.
+const MOST_ROUNDS: usize = 64;
+
+/// Whether the End of each lane was taken.
+pub(crate) fn all_ended(ends: &[LaneRx]) -> bool
+    ensures { IsTrue result ↔ All IsEnded ends.now }
+{
+    ends.iter().all(|rx| rx.ended())
+}
+
+/// Takes rounds until their frames are worth the threads that open them. The result is how many bytes the
+/// last round had.
+///
+/// What waits has then less than `ENOUGH` bytes and one frame of each lane more. If a lane has no item, its
+/// round is the last one.
+pub(crate) fn take_rounds<R: Wait>(rt: &R, ends: &mut [LaneRx], waiting: &mut [Waiting]) -> usize
+    requires each { length ends.old ≡ length waiting.old }
+    requires unjudged { All IsUnjudged waiting.old }
+    ensures taken { (mids : List Side) → HaveTaken mids ends.old waiting.old
+        → HaveTaken mids ends.new waiting.new }
+    ensures unjudged { All IsUnjudged waiting.new }
+    ensures each { length ends.new ≡ length waiting.new }
+{
+    let mut bytes = 0usize;
+    let mut last = 0;
+    for _ in 0..MOST_ROUNDS {
+        if bytes >= ENOUGH || all_ended(ends) {
+            return last;
+        }
+        let Some(more) = take_round(rt, ends, waiting) else {
+            return last;
+        };
+        bytes = bytes.saturating_add(more);
+        last = more;
+    }
+    last
+}
+
 /// Takes one round. The result is how many bytes the frames had.
 ///
-/// If a lane has no item, its sender being gone or memory having run out, that is the last turn.
-pub(crate) fn take_round<R: Wait>(rt: &R, ends: &mut [LaneRx], waiting: &mut [Waiting]) -> usize
+/// If a lane has no item, its sender being gone or memory having run out, that is the last turn, and the
+/// result is `None`.
+fn take_round<R: Wait>(rt: &R, ends: &mut [LaneRx], waiting: &mut [Waiting]) -> Option<usize>
     requires each { length ends.old ≡ length waiting.old }
     requires unjudged { All IsUnjudged waiting.old }
     ensures taken { (mids : List Side) → HaveTaken mids ends.old waiting.old
@@ -23,11 +66,11 @@ pub(crate) fn take_round<R: Wait>(rt: &R, ends: &mut [LaneRx], waiting: &mut [Wa
     let mut bytes = 0usize;
     for lane in 0..ends.len() {
         let Some(more) = take_one(rt, &mut ends[lane], &mut waiting[lane]) else {
-            return bytes;
+            return None;
         };
         bytes = bytes.saturating_add(more);
     }
-    bytes
+    Some(bytes)
 }
 
 /// Takes the next item of a lane, unless its End was taken. The result is how many bytes the frame had,
@@ -48,6 +91,7 @@ fn take_one<R: Wait>(rt: &R, rx: &mut LaneRx, waiting: &mut Waiting) -> Option<u
             let count = bytes.as_slice().len();
             waiting.came = rx.count() as usize;
             waiting.frames.push_back_reserved(bytes);
+            waiting.bytes = waiting.bytes.saturating_add(count);
             Some(count)
         }
         Ok(Item::End) => {

@@ -1,7 +1,7 @@
--- Without memory for what waits, the round isn't begun.
+-- Without memory for what waits, no round is begun.
 use Rattle.std.proofs.lemmas.Result.{err_from_is_err_and}
 use Rattle.krb_relay.proofs.WaitingLemmas.{stands_stop}
-use Rattle.krb_relay.proofs.side_by_side.round_side_by_side.Goals as goal
+use Rattle.krb_relay.proofs.side_by_side.rounds_side_by_side.Goals as goal
 
 pub returns-in_err-waiting-clause-err : goal.returns-in_err-waiting-clause-err
 returns-in_err-waiting-clause-err g c =
