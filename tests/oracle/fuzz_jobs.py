@@ -246,8 +246,8 @@ def drawn_lanes(dice):
     count, how = dice.choice([1, 1, 2, 2, 3, 8]), dice.random()
     if how < 0.03:
         return [lane(dice, 4, OF_LONG_ROUNDS, 3) for _ in range(count)]
-    if how < 0.08:
-        return [lane(dice, 4, OF_MANY_ROUNDS, dice.choice([3, 40, 90])) for _ in range(max(count, 3))]
+    if how < 0.06:
+        return [lane(dice, 4, OF_MANY_ROUNDS, dice.choice([3, 20, 40])) for _ in range(max(count, 3))]
     return [lane(dice, 4) for _ in range(count)]
 
 

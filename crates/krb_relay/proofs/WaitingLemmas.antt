@@ -28,8 +28,8 @@ use Rattle.krb_relay.specs.declared.waiting.Waiting.{Waiting}
 use Rattle.krb_relay.specs.Gathering.{lane_of}
 use Rattle.krb_relay.specs.Opening.{HasJudged, OpensEach, AreReady}
 use Rattle.krb_relay.specs.Serving.{post, Stands, Stops, Drains, Turns, passed, closed}
-use Rattle.krb_relay.specs.Waiting.{Follows, HasTaken, HaveTaken, IsJudged, AreWaiting, Waits, IsEmpty, IsUnjudged, MayBeLogged, LogsFrame, LogsLast, LogsItem}
-use Rattle.krb_relay.proofs.EndsLemmas.{all_drains_self}
+use Rattle.krb_relay.specs.Waiting.{Follows, HasTaken, HaveTaken, TakesMore, AreTaken, IsJudged, AreWaiting, Waits, IsEmpty, IsUnjudged, MayBeLogged, LogsFrame, LogsLast, LogsItem}
+use Rattle.krb_relay.proofs.EndsLemmas.{all_drains_self, all_drains_more}
 use Rattle.krb_relay.proofs.OpeningLemmas.{side, within_default}
 use Rattle.krb_relay.proofs.StandsLemmas.{all_answered, all_logged, notes_taken, lanes_are, lane_below, lane_small, moments_of, next_round, shut_here, turned}
 
@@ -474,18 +474,26 @@ side_is m e lane-is capacity-is frames-are ended-is =
     ap A lane-is ∙ (ap B capacity-is ∙ (ap C frames-are ∙ ap D ended-is))
 
 -- nothing waits: the lanes were logged as far as they were taken
+ended_alike : (l : Last) (m e : Side) (frames : List (List ℕ)) → l ≢ last.End → Follows l m e frames → m.ended ≡ e.ended
+ended_alike last.Nothing m e frames off f = f.0 ∙ sym f.1
+ended_alike last.End m e frames off f = absurd (off refl)
+ended_alike (last.More cause) m e frames off f = f.0 ∙ sym f.1
+
+same_side : (m e : Side) (w : Waiting) → HasTaken m e w → IsEmpty w → m ≡ e
+same_side m e w t none-is =
+    let frames : m.frames ≡ e.frames = sym (t.frames ∙ (ap (λ gs. m.frames ++ gs) none-is.no_frame ∙ append-nil m.frames)) in
+    let ended : m.ended ≡ e.ended = ended_alike w.last m e w.frames.items none-is.no_end t.follows in
+    side_is m e (sym t.same) (sym t.capacity) frames ended
+
+same_sides : (mids ends : List Side) (ws : List Waiting) → HaveTaken mids ends ws → All IsEmpty ws → mids ≡ ends
+same_sides mids ends ws h none =
+    let n = h.each_end in
+    let m = h.each_lane in
+    same_lists mids ends (sym n) (λ k d lt.
+    let w : Waiting = some_of ws k (omega (arith, m, lt)) in
+    same_side (get_or mids k d) (get_or ends k d) (get_or ws k w) (h.each k d d w lt) (none k w (omega (arith, m, lt))))
+
 module _ (starts : List Receiving) (ends : List Side) (receivings : List Receiving) (ws : List Waiting) (log : LogState) (h : Waits 0 starts ends receivings ws log) (none : All IsEmpty ws) where
-  ended_alike : (l : Last) (m e : Side) (frames : List (List ℕ)) → l ≢ last.End → Follows l m e frames → m.ended ≡ e.ended
-  ended_alike last.Nothing m e frames off f = f.0 ∙ sym f.1
-  ended_alike last.End m e frames off f = absurd (off refl)
-  ended_alike (last.More cause) m e frames off f = f.0 ∙ sym f.1
-
-  same_side : (m e : Side) (w : Waiting) → HasTaken m e w → IsEmpty w → m ≡ e
-  same_side m e w t none-is =
-      let frames : m.frames ≡ e.frames = sym (t.frames ∙ (ap (λ gs. m.frames ++ gs) none-is.no_frame ∙ append-nil m.frames)) in
-      let ended : m.ended ≡ e.ended = ended_alike w.last m e w.frames.items none-is.no_end t.follows in
-      side_is m e (sym t.same) (sym t.capacity) frames ended
-
   same_receiving : (m : Side) (before now : Receiving) (w : Waiting) → IsJudged m before now w → IsEmpty w → before ≡ now
   same_receiving m before now w j none-is =
       let judged : w.verdicts.items ≡ [] = no_verdicts m before now w j none-is.no_frame in
@@ -496,13 +504,10 @@ module _ (starts : List Receiving) (ends : List Side) (receivings : List Receivi
 
   pub waits_over : Stands 0 starts ends receivings log
   waits_over =
-      let n = h.waits.taken.each_end in
       let m = h.waits.taken.each_lane in
       let b = h.waits.each_before in
       let r = h.waits.each_receiver in
-      let sides : h.mids ≡ ends = same_lists h.mids ends (sym n) (λ k d lt.
-      let w : Waiting = some_of ws k (omega (arith, m, lt)) in
-      same_side (get_or h.mids k d) (get_or ends k d) (get_or ws k w) (h.waits.taken.each k d d w lt) (none k w (omega (arith, m, lt)))) in
+      let sides : h.mids ≡ ends = same_sides h.mids ends ws h.waits.taken none in
       let them : h.its ≡ receivings = same_lists h.its receivings (b ∙ sym r) (λ k d lt.
       let within : k < length h.mids = omega (arith, b, lt) in
       let w : Waiting = some_of ws k (omega (arith, m, within)) in
@@ -522,6 +527,54 @@ stops_from starts before ends now log h same = record {
   same = h.same ∙ same;
   drained = h.drained;
 }
+
+-- more came through the ends since
+pub stops_later : (starts : List Receiving) (before ends now : List Side) (log : LogState) → Stops starts before ends log → AllZip Drains ends now → Stops starts before now log
+stops_later starts before ends now log h more = record {
+  mid = h.mid;
+  judged = h.judged;
+  logged = h.logged;
+  lanes = h.lanes;
+  taken = h.taken;
+  same = h.same;
+  drained = all_drains_more h.mid ends now h.drained more;
+}
+
+-- ---- what was taken, and isn't opened
+
+pub are_taken : (starts : List Receiving) (before ends : List Side) (receivings : List Receiving) (none ws : List Waiting) (log : LogState) → Stands 0 starts before receivings log → HaveTaken before before none
+    → TakesMore before none ends ws → AreTaken starts ends receivings ws log
+are_taken starts before ends receivings none ws log stands nothing takes = record {
+  mids = before;
+  stands = stands;
+  taken = takes.taken before nothing;
+  unjudged = takes.unjudged;
+}
+
+pub same_taken : (before ends : List Side) (none ws : List Waiting) → HaveTaken before before none → TakesMore before none ends ws → map lane_of ends ≡ map lane_of before
+same_taken before ends none ws nothing takes = same_lanes_of before ends ws (takes.taken before nothing)
+
+module _ (starts : List Receiving) (ends : List Side) (receivings : List Receiving) (ws : List Waiting) (log : LogState) (h : AreTaken starts ends receivings ws log) where
+  pub taken_ready : AreReady receivings ws
+  taken_ready = ready_of starts h.mids receivings log ends ws h.stands h.taken h.unjudged
+
+  pub taken_waits : (opened : List Receiving) (vs : List Waiting) → OpensEach receivings ws opened vs → Waits 0 starts ends opened vs log
+  taken_waits opened vs opens = record {
+    mids = h.mids;
+    its = receivings;
+    stands = h.stands;
+    waits = waiting_of h.mids receivings ends opened ws vs (h.stands.each_receiver ∙ sym h.stands.each_end) h.taken opens;
+  }
+
+  -- where nothing waits, and where the thread stops
+  pub taken_over : All IsEmpty ws → Stands 0 starts ends receivings log
+  taken_over none = let P : List Side → Type 0 = λ x. Stands 0 starts x receivings log in subst P (same_sides h.mids ends ws h.taken none) h.stands
+
+  pub taken_stop : Stops starts ends ends log
+  taken_stop =
+      stops_from starts ends h.mids ends log
+      (stops_later starts h.mids h.mids ends log (stands_stop starts h.mids receivings log h.stands) (drains_of h.mids ends ws h.taken))
+      (sym (same_lanes_of h.mids ends ws h.taken))
 
 -- ---- the lists of a round
 

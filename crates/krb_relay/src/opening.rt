@@ -11,7 +11,7 @@ use std::alloc::Global;
 use std::thread::{Threads, join_mut};
 
 /// No thread is started for lanes of which fewer bytes wait.
-const WORTH_A_THREAD: usize = 1 << 14;
+const WORTH_A_THREAD: usize = 24 * 1024;
 
 /// Opens what waits of each lane, in threads where it is long enough, or one lane after another if no
 /// thread can be made.

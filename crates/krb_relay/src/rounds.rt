@@ -12,17 +12,13 @@ ghost use Rattle.krb_relay.specs.Serving.{Drains, Stands, Stops, Turns, post};
 use crate::cause::OwnCause;
 use crate::fault::OwnFault;
 use crate::side_by_side::rounds_side_by_side;
-use crate::taking::all_ended;
+use crate::taking::{LONG_ROUND, all_ended};
 use krb_lane::{Item, LaneRx, Lost};
 use krb_peers::{Log, Receiving};
 use std::alloc::Global;
 use std::snapshot::Snapshot;
 use std::sync::Wait;
 use std::thread::Threads;
-
-/// If the last round had so many bytes, the next ones are opened side by side. Of shorter frames threads
-/// would cost more than they save.
-const LONG_ROUND: usize = 1 << 12;
 
 /// Serves all lanes to their Ends.
 pub(crate) fn serve_all<R: Threads + Wait + Sync>(

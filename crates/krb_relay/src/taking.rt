@@ -3,17 +3,20 @@
 ghost use Rattle.std.specs.Prelude.{◌≡◌, ◌↔◌, List, length, All, IsTrue};
 ghost use Rattle.krb_lane.specs.Side.{Side};
 ghost use Rattle.krb_relay.specs.Gathering.{IsEnded};
-ghost use Rattle.krb_relay.specs.Waiting.{HasTaken, HaveTaken, IsUnjudged};
+ghost use Rattle.krb_relay.specs.Waiting.{HasTaken, HaveTaken, IsUnjudged, TakesMore};
 
 use crate::cause::OwnCause;
 use crate::waiting::{Last, Waiting};
 use krb_lane::{Item, LaneRx, Lost};
 use std::sync::Wait;
 
-/// No further round is taken once the frames that wait have so many bytes.
+/// Rounds of fewer bytes are served in turn, since threads would cost more than they save.
+pub(crate) const LONG_ROUND: usize = 1 << 12;
+
+/// No further round is taken once the frames have so many bytes.
 const ENOUGH: usize = 1 << 17;
 
-/// The most rounds that are taken before the log is written.
+/// The most rounds that are taken together.
 const MOST_ROUNDS: usize = 64;
 
 /// Whether the End of each lane was taken.
@@ -23,32 +26,33 @@ pub(crate) fn all_ended(ends: &[LaneRx]) -> bool
     ends.iter().all(|rx| rx.ended())
 }
 
-/// Takes rounds until their frames are worth the threads that open them. The result is how many bytes the
-/// last round had.
+/// Takes rounds after some of so many bytes on average, unless these were short. The result is how many
+/// bytes the rounds have on average, or 0 if a lane had no item.
 ///
-/// What waits has then less than `ENOUGH` bytes and one frame of each lane more. If a lane has no item, its
-/// round is the last one.
-pub(crate) fn take_rounds<R: Wait>(rt: &R, ends: &mut [LaneRx], waiting: &mut [Waiting]) -> usize
+/// What was taken has less than `ENOUGH` bytes and one frame of each lane more.
+pub(crate) fn take_rounds<R: Wait>(
+    rt: &R,
+    before: usize,
+    ends: &mut [LaneRx],
+    waiting: &mut [Waiting],
+) -> usize
     requires each { length ends.old ≡ length waiting.old }
     requires unjudged { All IsUnjudged waiting.old }
-    ensures taken { (mids : List Side) → HaveTaken mids ends.old waiting.old
-        → HaveTaken mids ends.new waiting.new }
-    ensures unjudged { All IsUnjudged waiting.new }
-    ensures each { length ends.new ≡ length waiting.new }
+    ensures { TakesMore ends.old waiting.old ends.new waiting.new }
 {
     let mut bytes = 0usize;
-    let mut last = 0;
-    for _ in 0..MOST_ROUNDS {
-        if bytes >= ENOUGH || all_ended(ends) {
-            return last;
+    let mut mean = before;
+    for round in 0..MOST_ROUNDS {
+        if before < LONG_ROUND || bytes >= ENOUGH || all_ended(ends) {
+            return mean;
         }
         let Some(more) = take_round(rt, ends, waiting) else {
-            return last;
+            return 0;
         };
         bytes = bytes.saturating_add(more);
-        last = more;
+        mean = bytes / (round + 1);
     }
-    last
+    mean
 }
 
 /// Takes one round. The result is how many bytes the frames had.

@@ -29,8 +29,10 @@ pub(super) struct Row {
     outcomes: &'static [u8],
 }
 
+const LETTERS: &[u8] = b"ABCDEFGHIJKLMNOPQRSTUVWXYZABCDEFGHIJKLMN";
+
 const LONG: Row = Row {
-    letters: b"ABCDEFGHIJKLMNOPQRSTUVWXYZABCDEFGHIJKLMN",
+    letters: LETTERS,
     plan: &[],
     changed: 0,
     outcomes: b"ABCDEFGHIJKLMNOPQRSTUVWXYZABCDEFGHIJKLMN.",
@@ -38,7 +40,7 @@ const LONG: Row = Row {
 
 /// The same texts. The frame of the 36th comes twice.
 const REPEATED: Row = Row {
-    letters: LONG.letters,
+    letters: LETTERS,
     plan: &[
         0, 1, 2, 3, 4, 5, 6, 7, 8, 9, 10, 11, 12, 13, 14, 15, 16, 17, 18, 19, 20, 21, 22, 23, 24,
         25, 26, 27, 28, 29, 30, 31, 32, 33, 34, 35, 35, 36, 37, 38, 39, 40,
@@ -49,7 +51,7 @@ const REPEATED: Row = Row {
 
 /// The same texts. The 20th isn't sealed.
 const STOPPED: Row = Row {
-    letters: LONG.letters,
+    letters: LETTERS,
     plan: &[],
     changed: 0,
     outcomes: b"ABCDEFGHIJKLMNOPQRS",
