@@ -5,10 +5,10 @@ use Rattle.krb_relay.proofs.WaitingLemmas.{are_taken, drains_of, same_taken, sto
 use Rattle.krb_relay.proofs.side_by_side.open_and_log.Goals as goal
 
 pub open_and_take-bytes-requires-clause-ready : goal.open_and_take-bytes-requires-clause-ready
-open_and_take-bytes-requires-clause-ready g c = taken_ready c.args.starts.now.value.items c.args.ends.now c.args.receivings.now c.args.waiting.now c.args.log.now c.requires.taken
+open_and_take-bytes-requires-clause-ready g c κs within = taken_ready c.args.starts.now.value.items c.args.ends.now c.args.receivings.now c.args.waiting.now c.args.log.now c.requires.taken
 
 pub open_and_take-bytes-requires-clause-each : goal.open_and_take-bytes-requires-clause-each
-open_and_take-bytes-requires-clause-each g c = sym c.requires.none.each_lane
+open_and_take-bytes-requires-clause-each g c κs within = sym c.requires.none.each_lane
 
 pub log_all-requires : goal.log_all-requires
 log_all-requires g c = record {
