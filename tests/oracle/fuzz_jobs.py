@@ -12,7 +12,9 @@ MOMENTS = [5, 951_782_400_000_000, jobs.MICROS, jobs.MICROS + 999_994, LAST_MOME
 SIZES = [0, 0, 1, 2, 2, 3, 13, 14, 15, 16, 31, 100, 200, 1000]
 LONG = [[59_999], [65_535], [999_999], [1_000_000], [499_996, 499_996], [499_997, 499_996],
         [999_992, 0], [999_993, 0]]
-OF_LONG_ROUNDS = [17_000, 70_000, 140_000]   # of eight senders or of one these are opened side by side
+# Sizes of texts that are opened side by side: those of one round or a few, and those of many rounds.
+OF_LONG_ROUNDS = [17_000, 70_000, 140_000]
+OF_MANY_ROUNDS = [100, 1_024, 1_024, 5_000]
 ODD_VALUES = ['""', "0", "-1", "17", "1.0", "true", "[]", "[0]", '["0"]', '["00"]', "{}", "{a = 1}",
               "1979-05-27", "07:32", "07:32:60", "1979-02-30", '"2:00"', "[1,\n2,]", "{a = 1,\n}",
               r'"\x41"', "'''a'''", '"""\n00"""', "0x11", "1_7", "1__7", "inf", "1e3",
@@ -173,12 +175,12 @@ def emission(dice, sent, place, size):
 
 
 def plan(dice, sent):
-    """No plan, or the frames of the sender with others among them."""
+    """No plan, or the frames of the sender with others among them: some three where frames are many."""
     if dice.random() < 0.2:
         return None
-    found = []
-    for place, frame in enumerate(sent.frames()):
-        while dice.random() < 0.3:
+    found, right = [], sent.frames()
+    for place, frame in enumerate(right):
+        while dice.random() < min(0.3, 3 / len(right)):
             found.append(emission(dice, sent, place, len(frame)))
         found.append(("frame", place))
     return disturbed(dice, found)
@@ -203,11 +205,11 @@ def batch_key(dice, sent):
     return None if sent.batch == 1 and dice.random() < 0.9 else sent.batch
 
 
-def lane(dice, most, long=False):
-    """A sender with its plan, its receiver's moments, and both as a job has them."""
+def lane(dice, most, sizes=(), count=0):
+    """A sender with its plan, its receiver's moments, and both as a job has them. It has so many texts
+    more of these sizes."""
     sent = sender(dice, most)
-    if long:
-        sent.texts += [dice.randbytes(dice.choice(OF_LONG_ROUNDS)) for _ in range(3)]
+    sent.texts += [dice.randbytes(dice.choice(sizes)) for _ in range(count)]
     sent.plan = plan(dice, sent)
     moments = nows(dice, sent)
     return sent, moments, jobs.sealing(sent, moments, batch=batch_key(dice, sent))
@@ -239,16 +241,25 @@ def seal_job(dice):
     return jobs.job([table]), lines, emissions([sent])
 
 
+def drawn_lanes(dice):
+    """The lanes of a job for `relay`. Some jobs have texts that are opened side by side."""
+    count, how = dice.choice([1, 1, 2, 2, 3, 8]), dice.random()
+    if how < 0.03:
+        return [lane(dice, 4, OF_LONG_ROUNDS, 3) for _ in range(count)]
+    if how < 0.06:
+        return [lane(dice, 4, OF_MANY_ROUNDS, dice.choice([3, 20, 40])) for _ in range(max(count, 3))]
+    return [lane(dice, 4) for _ in range(count)]
+
+
 def relay_job(dice):
     """A job for `relay`, its lines, and how many frames it emits."""
-    long = dice.random() < 0.03
-    lanes = [lane(dice, 4, long) for _ in range(dice.choice([1, 1, 2, 2, 3, 8]))]
+    lanes = drawn_lanes(dice)
     senders = [sent for sent, _, _ in lanes]
     fault = fault_of(senders)
     pairs = [(sent, moments) for sent, moments, _ in lanes]
     lines = [fault] if fault else opener.relay_lines(pairs)
     tables = [table for _, _, table in lanes]
-    return jobs.job(tables, dice.choice([1, 2, 64])), lines, emissions(senders)
+    return jobs.job(tables, dice.choice([1, 2, 8, 64])), lines, emissions(senders)
 
 
 # ---- jobs that are spoilt
