@@ -101,10 +101,11 @@ OF_PROGRAM = {"tests": ["pytest", "-q", "-x", "tests/test_program.py"],
               "job_costs": ["tests/job_costs", "--check"], "costs": ["tests/program_costs", "--growth"]}
 
 
-def of_program(copy: Copy, what: str) -> Told:
+def of_program(copy: Copy, what: str, *more: str) -> Told:
+    """With more words, of `costs` the names of families: all of them take a busy machine too long."""
     if not copy.program:
         return False, "there is no program"
-    return copy.run(OF_PROGRAM[what], cwd=copy.top)
+    return copy.run([*OF_PROGRAM[what], *more], cwd=copy.top)
 
 
 # ---- the carrier
