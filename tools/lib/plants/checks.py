@@ -73,10 +73,9 @@ def counted(told: Told) -> Told:
 
 
 def costs(copy: Copy) -> Told:
-    """Of a library without proofs with a function around a call only this call."""
-    library = f"{copy.library}/libkrbrelay.so.1"
-    of = ["--of", library] if copy.is_of_proved_code() else ["--unproved", library, *copy.wraps[:1]]
-    return counted(copy.run(["c/costs", *of], cwd=copy.top))
+    """Of a library with a function around a call only this call."""
+    of = "--of" if copy.is_of_proved_code() else "--unproved"
+    return counted(copy.run(["c/costs", of, f"{copy.library}/libkrbrelay.so.1", *copy.wraps[:1]], cwd=copy.top))
 
 
 # The part of c/signatures that asks for no proved module.
