@@ -12,7 +12,7 @@ import sys
 import pytest
 
 from lib import parts, report, scripts, typed
-from lib.build import assembly, building, c_tools
+from lib.build import assembly, building, c_tools, without_proofs
 from lib.plants import checks, planted, wrapped
 from signatures import plants as signature_plants
 from signatures.given import Given
@@ -428,6 +428,19 @@ def test_a_plant_around_a_call_is_c(name):
     ("fn krb_carry::progress::follow: no proof: it calls `krb_carry::progress::Progress::take`, which is not proved", "")])
 def test_a_refusal_names_a_goal_of_the_function(said, goals):
     assert checks.goals_of(f"== krb_carry\n{said}\n1 passed", "krb_carry", "Progress::take") == goals
+
+
+@pytest.mark.parametrize("passed, said", [(True, "3 passed, 0 failed"), (False, "FAILED a: 9\n2 passed, 1 failed")])
+def test_a_tool_that_counted_is_believed(passed, said):
+    assert checks.counted((passed, said)) == (passed, said)
+
+
+@pytest.mark.parametrize("said", [
+    "", "FAILED a: 9", "Traceback (most recent call last):\nsubprocess.TimeoutExpired: it timed out after 300 seconds",
+    "not at its end after 900 seconds"])
+def test_a_tool_that_ended_before_its_count_saw_nothing(said):
+    with pytest.raises(without_proofs.NotCompiled):
+        checks.counted((False, said))
 
 
 @pytest.mark.parametrize("passed, said, is_seen", [

@@ -1,5 +1,5 @@
 /* What calls cost: under callgrind, linked with the shared library, so that its instructions stand alone.
- * A line for each case on standard output: call, what happens, mode, encryption type, size, answer, and of
+ * Its words are sizes, and after them the calls that are measured, by default all. A line for each case on standard output: call, what happens, mode, encryption type, size, answer, and of
  * the allocations how many, the bytes asked for, the largest, and the frame's bytes. Callgrind dumps the
  * instructions of each under the same line (c/costs reads both). */
 #include "check.h"
@@ -195,7 +195,16 @@ static void measure_changed(const struct call *call, size_t at, const char *what
     frame[at] ^= 1;
 }
 
-static void measure_all(void)
+/* Whether the words name this call, or none. */
+static int is_asked(const char *call, int count, char **names)
+{
+    for (int i = 0; i < count; i++)
+        if (strcmp(names[i], call) == 0)
+            return 1;
+    return count == 0;
+}
+
+static void measure_all(int count, char **names)
 {
     seal_frame();
     for (int i = 0; i < MANY; i++) {
@@ -203,7 +212,7 @@ static void measure_all(void)
         memcpy(many[i].confounder, confounder, sizeof confounder);
     }
     for (size_t i = 0; i < sizeof calls / sizeof *calls; i++) {
-        if (calls[i].makes && data_len > 0)
+        if ((calls[i].makes && data_len > 0) || !is_asked(calls[i].name, count, names))
             continue;
         measure(&calls[i], "done");
         if (!calls[i].opens || calls[i].made == header)
@@ -218,17 +227,20 @@ static void measure_all(void)
 
 int main(int count, char **words)
 {
+    int names = 1;
     now = moment(SECS, USEC);
+    while (names < count && words[names][0] >= '0' && words[names][0] <= '9')
+        names++;
     for (int i = 0; i < 32; i++)
         key[i] = (uint8_t)(i * 7 + 1);
     for (size_t i = 0; i < MOST; i++)
         data[i] = (uint8_t)(i * 31 + i / 256);
     for (mode = KRBRELAY_SAFE; mode <= KRBRELAY_PRIV; mode++)
         for (etype = 17; etype <= 18; etype++)
-            for (int i = 1; i < count; i++) {
+            for (int i = 1; i < names; i++) {
                 data_len = strtoul(words[i], NULL, 10);
                 check(data_len <= MOST, "the size");
-                measure_all();
+                measure_all(count - names, words + names);
             }
     return 0;
 }

@@ -13,6 +13,7 @@ Told = tuple[bool, str]
 WRAPS = ["-Wl,--wrap=malloc", "-Wl,--wrap=realloc", "-Wl,--wrap=free"]
 LINKED = {"calls": ["-Wl,--wrap=clock_gettime", "-Wl,--wrap=getrandom"], "residue": WRAPS[2:]}
 OF_A_TEST = 60      # seconds, as `rt ci` gives each test of a crate
+COUNT = re.compile(r"^\d+ passed, \d+ failed", re.M)
 OF_32_BITS = ["-m32", "-ffreestanding", "-nostdlib", "-static", "-fno-pic", "-no-pie", "-fno-stack-protector"]
 
 
@@ -62,9 +63,19 @@ def supported_v3(copy: Copy) -> Told:
     return copy.run(["./supported_v3"]) if made else (made, said)
 
 
+def counted(told: Told) -> Told:
+    """What a tool found that counts. One that ended before its count, as at its own time limit on a busy machine,
+    says nothing of a fault."""
+    passed, said = told
+    if not passed and not COUNT.search(said):
+        raise NotCompiled(f"it ended before its count: {said[-1000:]}")
+    return told
+
+
 def costs(copy: Copy) -> Told:
-    library = f"{copy.library}/libkrbrelay.so.1"
-    return copy.run(["c/costs", "--of" if copy.is_of_proved_code() else "--unproved", library], cwd=copy.top)
+    """Of a library with a function around a call only this call."""
+    of = "--of" if copy.is_of_proved_code() else "--unproved"
+    return counted(copy.run(["c/costs", of, f"{copy.library}/libkrbrelay.so.1", *copy.wraps[:1]], cwd=copy.top))
 
 
 # The part of c/signatures that asks for no proved module.
@@ -101,10 +112,12 @@ OF_PROGRAM = {"tests": ["pytest", "-q", "-x", "tests/test_program.py"],
               "job_costs": ["tests/job_costs", "--check"], "costs": ["tests/program_costs", "--growth"]}
 
 
-def of_program(copy: Copy, what: str) -> Told:
+def of_program(copy: Copy, what: str, *more: str) -> Told:
+    """With more words, of `costs` the names of families: all of them take a busy machine too long."""
     if not copy.program:
         return False, "there is no program"
-    return copy.run(OF_PROGRAM[what], cwd=copy.top)
+    told = copy.run([*OF_PROGRAM[what], *more], cwd=copy.top)
+    return counted(told) if what in ("costs", "job_costs") else told
 
 
 # ---- the carrier
