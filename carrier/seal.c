@@ -161,7 +161,7 @@ enum seal_answer seal_all(struct sealing *s)
         else
             i++;
     seal_forget(s);
-    return answer;
+    return answer == SEAL_OK && outbox_insert(s->outbox) != 0 ? SEAL_FAULT : answer;
 }
 
 /* ---- Texts */
