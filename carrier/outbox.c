@@ -450,7 +450,7 @@ int outbox_drop_stopped(struct outbox *o)
 
 int outbox_commit(struct outbox *o)
 {
-    return run(o->db, "COMMIT");
+    return outbox_insert(o) == 0 ? run(o->db, "COMMIT") : -1;
 }
 
 void outbox_rollback(struct outbox *o)

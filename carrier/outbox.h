@@ -117,8 +117,8 @@ int outbox_next_waiting(struct outbox *outbox, struct waiting_text *text);
 void outbox_end_waiting(struct outbox *outbox);
 int outbox_drop_texts(struct outbox *outbox, sqlite3_int64 first, sqlite3_int64 last);
 
-/* Adds a frame, with the history of the session up to it. What is added is there once outbox_insert was called; the
- * session's name stays until then. */
+/* Adds a frame, with the history of the session up to it. What is added can be read once outbox_insert was called, or the
+ * transaction was committed; the session's name stays until then. */
 int outbox_add_frame(struct outbox *outbox, const char *session, uint64_t number,
                      const uint8_t *frame, size_t len, const struct history *history);
 

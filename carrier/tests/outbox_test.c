@@ -401,7 +401,8 @@ static void test_done(struct outbox *outbox)
           && outbox_add_frame(outbox, of.name, 1, bytes, 3, &unknown) == 0
           && outbox_add_frame(outbox, of.name, 2, bytes, 3, &unknown) == 0
           && outbox_add_frame(outbox, of.name, 4, bytes, 3, &unknown) == 0
-          && outbox_add_frame(outbox, of.name, 5, bytes, 3, &beside) == 0, "frames are stored");
+          && outbox_add_frame(outbox, of.name, 5, bytes, 3, &beside) == 0 && outbox_insert(outbox) == 0,
+          "frames are stored");
     check(outbox_load(outbox, &of, &it) == 0, "the outbox tells how far a session is");
     it.carried = it.done = 2;
     check(outbox_set_carried(outbox, of.name, &it) == 0 && outbox_drop_done(outbox, of.name, it.done) == 0,
