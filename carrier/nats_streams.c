@@ -295,7 +295,8 @@ static const char *after_dots(const char *text, int dots)
 {
     while (text != NULL && dots-- > 0) {
         text = strchr(text, '.');
-        text += text != NULL;
+        if (text != NULL)
+            text++;
     }
     return text;
 }
