@@ -4,6 +4,7 @@
 #include "log.h"
 #include "text.h"
 
+#include <pthread.h>
 #include <stdio.h>
 #include <string.h>
 
@@ -65,11 +66,20 @@ static int wait_for_others(void *given, int tries)
     return 1;
 }
 
+/* SQLite counts its memory, under a lock of all threads, and nobody asks for that. */
+static void configure(void)
+{
+    (void)sqlite3_config(SQLITE_CONFIG_MEMSTATUS, 0); /* it is counted all the same if SQLite has begun before */
+}
+
 sqlite3 *open_database(const char *path, const char *tables)
 {
+    static pthread_once_t configured = PTHREAD_ONCE_INIT;
     /* Each database is of one thread, so its calls need no lock. */
     static const int flags = SQLITE_OPEN_READWRITE | SQLITE_OPEN_CREATE | SQLITE_OPEN_NOMUTEX;
     sqlite3 *db = NULL;
+    if (pthread_once(&configured, configure) != 0)
+        end_at_once("pthread_once");
     if (sqlite3_open_v2(path, &db, flags, NULL) != SQLITE_OK) {
         log_fact(LEVEL_ERROR, "database_unopened", field_text("file", path),
                  field_text("fault", db != NULL ? sqlite3_errmsg(db) : "out of memory"),
@@ -165,11 +175,17 @@ void bind_letters(struct statement *statement, int place, const char *text, size
 }
 
 /* No bytes are a blob of none, wherever they stand. */
-void bind_bytes(struct statement *statement, int place, const void *bytes, size_t len)
+static void bind_blob(struct statement *statement, int place, const void *bytes, size_t len,
+                      sqlite3_destructor_type stays)
 {
     int answer = len == 0 ? sqlite3_bind_zeroblob(statement->at, place, 0)
-                          : sqlite3_bind_blob64(statement->at, place, bytes, len, SQLITE_STATIC);
+                          : sqlite3_bind_blob64(statement->at, place, bytes, len, stays);
     note_bound(statement, answer);
+}
+
+void bind_bytes(struct statement *statement, int place, const void *bytes, size_t len)
+{
+    bind_blob(statement, place, bytes, len, SQLITE_STATIC);
 }
 
 static int report_statement(const struct statement *statement)
@@ -200,6 +216,60 @@ void end_rows(struct statement *statement)
     (void)sqlite3_reset(statement->at); /* it says once more what the last step did */
     statement->is_unbound = 0;
 }
+
+/* ---- Rows that are inserted together */
+
+/* Rows that weren't given are NULL, and left out. */
+int prepare_rows(sqlite3 *db, struct rows *rows, const char *sql)
+{
+    const char *values = strstr(sql, "VALUES "), *row = values + strlen("VALUES "), *at;
+    char text[1024];
+    int i;
+    *rows = (struct rows){ .count = 0 };
+    for (at = row; *at != 0; at++)
+        rows->places += *at == '?';
+    write_whole(text, sizeof text, "%.*sSELECT * FROM (%s", (int)(values - sql), sql, values);
+    for (i = 1; i < ROWS; i++)
+        write_whole(text + strlen(text), sizeof text - strlen(text), ", %s", row);
+    write_whole(text + strlen(text), sizeof text - strlen(text), ") WHERE column1 IS NOT NULL");
+    return prepare(db, &rows->all, text);
+}
+
+int next_row(const struct rows *rows)
+{
+    return rows->count * rows->places;
+}
+
+void bind_copy(struct rows *rows, int place, const void *bytes, size_t len)
+{
+    bind_blob(&rows->all, place, bytes, len, SQLITE_TRANSIENT);
+}
+
+void bind_name(struct rows *rows, int place, const char *name)
+{
+    note_bound(&rows->all, sqlite3_bind_text(rows->all.at, place, name, -1, SQLITE_TRANSIENT));
+}
+
+int add_row(struct rows *rows)
+{
+    return ++rows->count == ROWS ? insert_rows(rows) : 0;
+}
+
+int insert_rows(struct rows *rows)
+{
+    int answer = rows->count > 0 ? step_once(&rows->all) : 0;
+    forget_rows(rows);
+    return answer;
+}
+
+void forget_rows(struct rows *rows)
+{
+    if (rows->count > 0)
+        (void)sqlite3_clear_bindings(rows->all.at); /* it has no fault */
+    rows->all.is_unbound = rows->count = 0;
+}
+
+/* ---- */
 
 void finalize(struct statement *statements, int count)
 {

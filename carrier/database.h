@@ -46,6 +46,26 @@ int step_once(struct statement *statement);
 int step_row(struct statement *statement);
 void end_rows(struct statement *statement);
 
+/* Rows that are inserted ROWS at a time, which is quicker than one by one. */
+enum { ROWS = 32 };
+struct rows { struct statement all; int places, count; };
+
+/* Prepares it for a statement that inserts one row, "INSERT INTO .. VALUES (?, ..)", whose first value is never NULL:
+ * 0, or -1 after a fault. */
+int prepare_rows(sqlite3 *db, struct rows *rows, const char *sql);
+
+/* A row: its first value's place is the one after this number; bytes and names are copied by these two. Then it is
+ * added, and inserted now or with later ones: 0, or -1 after a fault. */
+int next_row(const struct rows *rows);
+void bind_copy(struct rows *rows, int place, const void *bytes, size_t len);
+void bind_name(struct rows *rows, int place, const char *name);
+int add_row(struct rows *rows);
+
+/* Inserts those that weren't yet, before the transaction is committed: 0, or -1 after a fault. Forgets them, where it is
+ * given up. */
+int insert_rows(struct rows *rows);
+void forget_rows(struct rows *rows);
+
 /* Ends statements, prepared or not, and a database, opened or not. */
 void finalize(struct statement *statements, int count);
 void close_database(sqlite3 *db);

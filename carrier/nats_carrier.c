@@ -1,4 +1,4 @@
-/* The connection to NATS, and what a stream is. */
+/* The connection to NATS. */
 #include "clock.h"
 #include "log.h"
 #include "nats_carrier.h"
@@ -12,8 +12,7 @@
 enum {
     RECONNECT = 200, /* milliseconds between tries */
     SILENT = 2000,   /* milliseconds after which a server that doesn't answer or read is left */
-    SHORTEST = 500,  /* milliseconds to wait for what a stream answers */
-    LONGEST = 3500,
+    STEP = 500,      /* milliseconds by which the wall clock may be set back, and nothing is done */
     SERVERS = 16,    /* the most servers of a name */
     WHERE = 2048     /* the most bytes of their addresses */
 };
@@ -23,108 +22,6 @@ int nats_report(const char *what, natsStatus status)
     log_fact(LEVEL_WARNING, "nats_fault", field_text("of", what),
              field_text("fault", natsStatus_GetText(status)), field_text("text", "tried again"));
     return CARRIER_FAULT;
-}
-
-/* Why a stream can't be a shard, or NULL: each frame has to stay until it was read. */
-static const char *fault_of(const struct nats_carrier *c, const jsStreamConfig *config)
-{
-    if (config->Retention != js_LimitsPolicy)
-        return "its retention isn't by limits: frames would go before all have read them";
-    if (config->MaxMsgsPerSubject > 0)
-        return "it keeps some messages of each subject alone";
-    if (config->Storage != js_FileStorage)
-        return "it isn't stored in files";
-    if (config->Replicas < (int64_t)c->replicas)
-        return config->Replicas == 1 ? "it has 1 replica, and --replicas asks for more"
-                                     : "it has fewer replicas than --replicas asks for";
-    return NULL;
-}
-
-natsStatus nats_judge_stream(const struct nats_carrier *c, const char *name, const jsStreamConfig *config)
-{
-    const char *fault = fault_of(c, config);
-    if (fault == NULL)
-        return NATS_OK;
-    log_fact(LEVEL_ERROR, "stream_unfit", field_text("stream", name), field_text("fault", fault),
-             field_text("text", "change the stream, or give other options"));
-    return NATS_ERR;
-}
-
-/* The options of a consumer that is kept in memory and awaits no acknowledgements. */
-natsStatus nats_begin_to_consume(const struct nats_carrier *c, const char *stream, jsSubOptions *options,
-                                 jsOptions *wait)
-{
-    natsStatus status = jsSubOptions_Init(options);
-    if (status == NATS_OK)
-        status = jsOptions_Init(wait);
-    if (status != NATS_OK)
-        return status;
-    wait->Wait = 2 * c->patience;
-    options->Stream = stream;
-    options->Config.AckPolicy = js_AckNone;
-    options->Config.MemoryStorage = true;
-    options->Config.Replicas = 1;
-    return NATS_OK;
-}
-
-/* The options of a question about a stream. */
-natsStatus nats_begin_to_ask(struct nats_carrier *c, jsOptions *options)
-{
-    natsStatus status = jsOptions_Init(options);
-    if (c->patience < SHORTEST)
-        c->patience = SHORTEST;
-    options->Wait = c->patience;
-    c->asked = nanoseconds();
-    return status;
-}
-
-static int between(int64_t number, int low, int high)
-{
-    return number < low ? low : number > high ? high : (int)number;
-}
-
-/* The next question is waited for twice as long as this one took; after one in vain twice as long
- * as this one, but, where answers were fast, not much longer: then it isn't the distance. */
-void nats_note_asked(struct nats_carrier *c, natsStatus status)
-{
-    int64_t took = (int64_t)(nanoseconds() - c->asked) / 1000000;
-    int limit = c->answered == 0 ? LONGEST : between(8 * c->answered, 2 * SHORTEST, LONGEST);
-    if (status == NATS_TIMEOUT) {
-        c->patience = between(2 * (int64_t)c->patience, SHORTEST, limit);
-        return;
-    }
-    c->answered = took + 1;
-    c->patience = between(2 * took, SHORTEST, LONGEST);
-}
-
-natsStatus nats_ask_stream(struct nats_carrier *c, unsigned shard, jsStreamInfo **info)
-{
-    char name[32];
-    jsOptions options;
-    jsErrCode code = 0;
-    natsStatus status = nats_begin_to_ask(c, &options);
-    *info = NULL;
-    write_whole(name, sizeof name, "KRB_%u", shard);
-    if (status == NATS_OK)
-        status = js_GetStreamInfo(info, c->js, name, &options, &code);
-    nats_note_asked(c, status);
-    return status == NATS_OK ? nats_judge_stream(c, name, (*info)->Config) : status;
-}
-
-static int incarnation(struct carrier *base, unsigned shard, uint64_t *incarnation, uint64_t *end)
-{
-    struct nats_carrier *c = (struct nats_carrier *)base;
-    jsStreamInfo *info = NULL;
-    natsStatus status = nats_ask_stream(c, shard, &info);
-    *incarnation = status == NATS_OK ? (uint64_t)info->Created : 0;
-    *end = status == NATS_OK ? info->State.LastSeq : 0;
-    if (c->incarnation != *incarnation)
-        c->known = 0;
-    c->incarnation = *incarnation;
-    jsStreamInfo_Destroy(info);
-    if (status == NATS_OK || status == NATS_NOT_FOUND)
-        return 0;
-    return status == NATS_ERR ? CARRIER_FAULT : nats_report("a stream", status);
 }
 
 static int is_away(struct carrier *base)
@@ -144,16 +41,24 @@ static int is_closed(struct carrier *base)
 
 /* ---- */
 
-static void close_it(struct carrier *base)
+/* Ends the connection, and all that hears over it. */
+static void end_connection(struct nats_carrier *c)
 {
-    struct nats_carrier *c = (struct nats_carrier *)base;
     nats_stop_reading(c);
+    natsSubscription_Destroy(c->replies);
     natsSubscription_Destroy(c->answers);
     natsSubscription_Destroy(c->receipts);
     natsSubscription_Destroy(c->about);
-    natsInbox_Destroy(c->inbox);
-    jsCtx_Destroy(c->js);
+    c->replies = c->answers = c->receipts = c->about = NULL;
     natsConnection_Destroy(c->connection);
+    c->connection = NULL;
+}
+
+static void close_it(struct carrier *base)
+{
+    struct nats_carrier *c = (struct nats_carrier *)base;
+    end_connection(c);
+    natsInbox_Destroy(c->inbox);
     natsOptions_Destroy(c->options);
     free(c);
 }
@@ -171,16 +76,6 @@ static natsStatus set_servers(natsOptions *options, const char *where)
         servers[count++] = place;
     }
     return natsOptions_SetServers(options, (const char **)servers, count);
-}
-
-/* Called on a thread of the library, which alone learns that a consumer has fallen silent. */
-static void note_fault(natsConnection *connection, natsSubscription *subscription,
-                       natsStatus status, void *given)
-{
-    (void)connection;
-    (void)subscription;
-    if (status == NATS_MISSED_HEARTBEAT)
-        __atomic_store_n(&((struct nats_carrier *)given)->is_silent, 1, __ATOMIC_SEQ_CST);
 }
 
 /* Who this is: USER PASSWORD, or what NATS's own tools write. */
@@ -238,9 +133,33 @@ static natsStatus set_options(natsOptions *options, const struct carrier_options
     return status;
 }
 
+static int64_t wall_clock_ahead(void)
+{
+    const struct krbrelay_moment now = read_clock();
+    return (int64_t)(now.seconds * 1000 + now.microseconds / 1000) - (int64_t)milliseconds();
+}
+
+natsStatus nats_hear(struct nats_carrier *c, const char *word, natsSubscription **subscription)
+{
+    char subject[NATS_SUBJECT];
+    write_whole(subject, sizeof subject, "%s.%s", (const char *)c->inbox, word);
+    return natsConnection_SubscribeSync(subscription, c->connection, subject);
+}
+
+/* Connects, and hears what comes to the inbox. */
 static natsStatus connect_to(struct nats_carrier *c)
 {
-    jsOptions given;
+    natsStatus status = natsConnection_Connect(&c->connection, c->options);
+    c->ahead = wall_clock_ahead();
+    if (status == NATS_OK || status == NATS_NOT_YET_CONNECTED)
+        status = nats_hear(c, "*.*.*.*", &c->answers);
+    if (status == NATS_OK)
+        status = natsSubscription_SetPendingLimits(c->answers, -1, -1);
+    return status;
+}
+
+static natsStatus begin(struct nats_carrier *c)
+{
     natsStatus status = natsOptions_SetMaxReconnect(c->options, -1);
     if (status == NATS_OK)
         status = natsOptions_SetReconnectWait(c->options, RECONNECT);
@@ -249,16 +168,39 @@ static natsStatus connect_to(struct nats_carrier *c)
     if (status == NATS_OK)
         status = natsOptions_SetWriteDeadline(c->options, SILENT);
     if (status == NATS_OK)
-        status = natsOptions_SetErrorHandler(c->options, note_fault, c);
+        status = natsInbox_Create(&c->inbox);
+    return status == NATS_OK ? connect_to(c) : status;
+}
+
+/* Called on a thread of the library. */
+static void note_connected(natsConnection *connection, void *given)
+{
+    (void)connection;
+    (void)given;
+}
+
+/* Another connection, which isn't waited for. */
+static natsStatus connect_anew(struct nats_carrier *c)
+{
+    const int hears_receipts = c->receipts != NULL;
+    natsStatus status = natsOptions_SetRetryOnFailedConnect(c->options, true, note_connected, c);
+    end_connection(c);
     if (status == NATS_OK)
-        status = natsConnection_Connect(&c->connection, c->options);
-    if (status == NATS_OK)
-        status = jsOptions_Init(&given);
-    if (status == NATS_OK) {
-        given.Wait = 2 * SHORTEST; /* for what the library asks by itself, as at a reader's end */
-        status = natsConnection_JetStream(&c->js, c->connection, &given);
-    }
-    return status;
+        status = connect_to(c);
+    return status == NATS_OK && hears_receipts ? nats_hear_receipts(c) : status;
+}
+
+void nats_look_at_clock(struct nats_carrier *c)
+{
+    int64_t ahead = wall_clock_ahead(), before = c->ahead;
+    natsStatus status;
+    c->ahead = ahead;
+    if (ahead >= before - STEP)
+        return;
+    status = connect_anew(c);
+    log_fact(LEVEL_WARNING, "clock_set_back", field_number("milliseconds", (uint64_t)(before - ahead)),
+             field_text("connection", natsStatus_GetText(status)),
+             field_text("text", "another connection is begun, since the one before may wait for as long"));
 }
 
 /* How many servers a name has: it may have passwords, which aren't printed. */
@@ -286,7 +228,7 @@ struct carrier *nats_carrier_open(const struct carrier_options *options)
     natsStatus status;
     if (c == NULL)
         return NULL;
-    c->base.incarnation = incarnation;
+    c->base.incarnation = nats_incarnation;
     c->base.make = nats_make;
     c->base.publish = nats_publish;
     c->base.confirmed = nats_confirmed;
@@ -302,9 +244,7 @@ struct carrier *nats_carrier_open(const struct carrier_options *options)
     c->replicas = options->replicas;
     status = natsOptions_Create(&c->options);
     if (status == NATS_OK && set_options(c->options, options) == NATS_OK) {
-        status = connect_to(c);
-        if (status == NATS_OK)
-            status = nats_await_answers(c);
+        status = begin(c);
         if (status == NATS_OK)
             return &c->base;
         report_unopened(options->where, status);

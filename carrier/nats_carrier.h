@@ -1,6 +1,8 @@
 /* The parts of the carrier over NATS JetStream. Shard N is the stream KRB_N with the subjects
  * krb.N.SESSION, an offset is a sequence number of the stream, and its incarnation is the time at
- * which it was made. */
+ * which it was made.
+ *
+ * libnats waits by the wall clock, so no part of it is asked to wait: these look, and pause by themselves. */
 #ifndef NATS_CARRIER_H
 #define NATS_CARRIER_H
 
@@ -9,21 +11,20 @@
 #include <krbrelay.h>
 #include <nats/nats.h>
 
-enum { NATS_HELD = 4096, NATS_STREAM = 320 };
-
-#define NATS_NO_STREAM "\"err_code\":10059" /* what the answer says where there is no such stream */
+enum { NATS_HELD = 4096, NATS_TEXT = 512, NATS_SUBJECT = 160 };
 
 struct nats_carrier {
     struct carrier base;
     natsOptions *options;
     natsConnection *connection;
-    jsCtx *js;
+    int64_t ahead;                      /* by so many milliseconds the wall clock is ahead of the one that only rises */
     unsigned replicas;
-    /* Questions about streams: milliseconds to wait for an answer, when the last was asked, and
-     * milliseconds that the last answer took, or 0. */
-    int patience;
-    uint64_t asked;
-    int64_t answered;
+    natsInbox *inbox;
+    /* Questions that are waited for (nats_streams.c): their answers, how many were asked, milliseconds to wait for one,
+     * and those that the last answer took, or 0. */
+    natsSubscription *replies;
+    unsigned long asked;
+    int patience, answered;
     /* Of each shard to which frames are published: its incarnation, whether it is known, the question about it
      * that is under way, or 0, and the pause until the next one. */
     struct { uint64_t incarnation; unsigned long question; struct krbrelay_pause pause; int is_known; }
@@ -31,18 +32,17 @@ struct nats_carrier {
     unsigned long questions;            /* so many were asked, */
     unsigned asked_count;               /* and are under way */
     uint64_t doubted;                   /* when it was last doubted that all are there, in milliseconds */
-    natsInbox *inbox;                   /* confirmations */
-    natsSubscription *answers;
+    natsSubscription *answers;          /* to these, and confirmations */
     /* The reader: which list it is, where it stands, how many frames its consumer has delivered, and the frames of
      * the last fetch. */
     unsigned shard;
     uint64_t incarnation, after, delivered;
     uint64_t known;                     /* it has been here: what is gone before it was told */
     uint64_t pending;                   /* frames after the last, when it was delivered */
+    uint64_t heard;                     /* when the consumer said something last, in milliseconds */
     natsSubscription *reader;
     natsMsg *held[NATS_HELD];
     int held_count;
-    int is_silent;                      /* 1: the consumer's heartbeats are missed */
     natsSubscription *receipts;         /* all that are published, from the first look on */
     natsSubscription *about;            /* a receiver's: answers about their stream, */
     struct krbrelay_pause asking, first; /* which isn't asked for before this is over; receipts wait for it at first */
@@ -53,49 +53,75 @@ struct nats_carrier {
 /* Logs a fault of a call; CARRIER_FAULT. */
 int nats_report(const char *what, natsStatus status);
 
-/* Asks for a shard's stream, and destroys nothing: the caller does. NATS_NOT_FOUND if there is
- * none, and NATS_ERR, with a report, if it isn't one that a shard may be. */
-natsStatus nats_ask_stream(struct nats_carrier *c, unsigned shard, jsStreamInfo **info);
+/* Subscribes to what is said to this carrier under a word of its inbox, such as "*.frames". */
+natsStatus nats_hear(struct nats_carrier *c, const char *word, natsSubscription **subscription);
+
+/* Where the wall clock was set back, a wait of libnats's threads may last for as long: another connection is begun. It is
+ * called whenever the caller asks for something. */
+void nats_look_at_clock(struct nats_carrier *c);
+
+/* ---- nats_streams.c: what streams and their consumers say. */
+
+/* What a stream says of itself. */
+struct nats_stream {
+    uint64_t created, last, messages, replicas;
+    int is_by_limits, is_in_files, keeps_all; /* its retention, its storage, and of each subject */
+};
+
+/* Reads it from an answer: NATS_OK, NATS_NOT_FOUND where there is no such stream, or NATS_ERR. */
+natsStatus nats_read_stream(natsMsg *answer, struct nats_stream *it);
 
 /* Whether a stream may be a shard: NATS_OK, or NATS_ERR with a report. */
-natsStatus nats_judge_stream(const struct nats_carrier *c, const char *name, const jsStreamConfig *config);
+natsStatus nats_judge_stream(const struct nats_carrier *c, const char *name, const struct nats_stream *it);
 
-/* nats_publisher.c: makes streams, publishes frames, and reads confirmations. */
-natsStatus nats_await_answers(struct nats_carrier *c);
-int nats_make(struct carrier *base, unsigned shard, uint64_t *incarnation);
-int nats_publish(struct carrier *base, unsigned shard, const char *session, uint32_t tag,
-                 uint64_t number, const uint8_t *frame, size_t len);
-int nats_confirmed(struct carrier *base, struct confirmed *list, size_t room, int milliseconds);
+/* Asks about a stream, and waits for the answer: also NATS_TIMEOUT or another status where there is none. */
+natsStatus nats_ask_stream(struct nats_carrier *c, const char *name, struct nats_stream *it);
+
+/* Has a consumer made that is kept in memory and awaits no acknowledgements, and waits for it; `how` are further members
+ * of its configuration. Where it isn't there soon, others are tried: servers may have given it to a node that is away. */
+natsStatus nats_consume(struct nats_carrier *c, const char *stream, const char *how, natsSubscription **reader);
+
+/* The offset of a message of a consumer, which of its messages it is, and how many come after it: 1, or 0 if it says
+ * nothing of that. */
+struct nats_place { uint64_t offset, turn, left; };
+int nats_read_place(natsMsg *message, struct nats_place *it);
+
+/* Waits for a message at most so long, by a clock that isn't set. */
+natsStatus nats_await(natsSubscription *from, natsMsg **message, int milliseconds);
 
 /* Asks about a stream, or has it made; the answer comes to that subject, and isn't waited for. How a stream is
  * made that keeps so many messages of each subject, -1: all. */
 void nats_ask(struct nats_carrier *c, const char *what, const char *stream, const char *reply, const char *text);
 void nats_write_stream(const struct nats_carrier *c, const char *stream, const char *subject, int of_subject,
-                       char text[NATS_STREAM]);
+                       char text[NATS_TEXT]);
 
-/* Whether an answer has a word; the number after it, or 0. */
+/* Whether an answer has a word; the number after it, or 0; what an error describes itself as. */
 int nats_says(natsMsg *message, const char *word);
 uint64_t nats_number_after(natsMsg *message, const char *word);
+void nats_read_description(natsMsg *message, char text[NATS_TEXT]);
 
-/* nats_reader.c */
+/* ---- nats_publisher.c: makes streams, publishes frames, and reads confirmations. */
+
+int nats_make(struct carrier *base, unsigned shard, uint64_t *incarnation);
+int nats_publish(struct carrier *base, unsigned shard, const char *session, uint32_t tag,
+                 uint64_t number, const uint8_t *frame, size_t len);
+int nats_confirmed(struct carrier *base, struct confirmed *list, size_t room, int milliseconds);
+
+/* ---- nats_reader.c */
+
+int nats_incarnation(struct carrier *base, unsigned shard, uint64_t *incarnation, uint64_t *end);
 void nats_seek(struct carrier *base, unsigned shard, uint64_t offset);
 int nats_fetch(struct carrier *base, struct carried *list, size_t room, int milliseconds);
 int nats_behind(struct carrier *base, uint64_t *frames);
 void nats_stop_reading(struct nats_carrier *c);
 
-/* nats_receipts.c */
+/* ---- nats_receipts.c */
+
 int nats_acknowledge(struct carrier *base, unsigned shard, const struct carried *list,
                      size_t count);
 natsStatus nats_look_for_receipts(struct nats_carrier *c); /* a receiver's: waits for nothing */
+natsStatus nats_hear_receipts(struct nats_carrier *c);
 int nats_receipts(struct carrier *base, carrier_receipt *take, void *given);
 void nats_forget(struct carrier *base, unsigned shard, const char *session);
-
-/* The options of a consumer of a stream that is kept in memory and awaits no acknowledgements: nats_carrier.c. */
-natsStatus nats_begin_to_consume(const struct nats_carrier *c, const char *stream, jsSubOptions *options,
-                                 jsOptions *wait);
-
-/* The options of a question about a stream, and what its answer was: nats_carrier.c. */
-natsStatus nats_begin_to_ask(struct nats_carrier *c, jsOptions *options);
-void nats_note_asked(struct nats_carrier *c, natsStatus status);
 
 #endif

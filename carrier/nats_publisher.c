@@ -16,127 +16,19 @@
 #include <string.h>
 
 enum {
-    ANSWER = 512,       /* bytes of a refusal that are read */
     QUESTIONS = 256,    /* so many are under way at most; milliseconds: */
     DOUBT = 200,
     KNOWN = 10000,      /* after which it is asked again whether a stream is still the same, */
     AGAIN = 2000,       /* whether it is there, if nothing was answered, */
-    AGAIN_MOST = 16000  /* and then ever more rarely */
+    AGAIN_MOST = 4000   /* and then more rarely: so long at most nothing leaves to a shard that is there again */
 };
 
-natsStatus nats_await_answers(struct nats_carrier *c)
-{
-    char subject[96];
-    natsStatus status = natsInbox_Create(&c->inbox);
-    if (status != NATS_OK)
-        return status;
-    write_whole(subject, sizeof subject, "%s.*.*.*.*", (const char *)c->inbox);
-    status = natsConnection_SubscribeSync(&c->answers, c->connection, subject);
-    if (status == NATS_OK)
-        status = natsSubscription_SetPendingLimits(c->answers, -1, -1);
-    return status;
-}
-
-/* ---- What an answer says */
-
-/* The bytes of a message after a word, and how many there are; NULL if it doesn't have the word. */
-static const char *after(natsMsg *message, const char *word, size_t *left)
-{
-    const char *data = natsMsg_GetData(message);
-    size_t len = (size_t)natsMsg_GetDataLength(message), size = strlen(word);
-    const char *place = len > 0 ? memmem(data, len, word, size) : NULL;
-    if (place == NULL)
-        return NULL;
-    *left = len - (size_t)(place + size - data);
-    return place + size;
-}
-
-int nats_says(natsMsg *message, const char *word)
-{
-    size_t left;
-    return after(message, word, &left) != NULL;
-}
-
-/* The number after a word; 0 if it isn't there. */
-uint64_t nats_number_after(natsMsg *message, const char *word)
-{
-    char digits[24];
-    size_t left;
-    const char *place = after(message, word, &left);
-    if (place == NULL)
-        return 0;
-    write_cut(digits, sizeof digits, "%.*s", (int)(left < sizeof digits ? left : sizeof digits - 1), place);
-    return strtoull(digits, NULL, 10);
-}
-
-/* Letters that servers write as \\u003e, and the like, become what they are. */
-static void unescape(char *text)
-{
-    char *from = text, *to = text;
-    unsigned letter;
-    while (*from != 0) {
-        int is_escaped = sscanf(from, "\\u00%2x", &letter) == 1 && letter >= ' ' && letter < 127;
-        *to++ = is_escaped ? (char)letter : *from;
-        from += is_escaped ? 6 : 1;
-    }
-    *to = 0;
-}
-
-/* What an error describes itself as. */
-static void read_description(natsMsg *message, char text[ANSWER])
-{
-    size_t left = 0;
-    const char *place = after(message, "\"description\":\"", &left);
-    if (left >= ANSWER)
-        left = ANSWER - 1;
-    write_cut(text, ANSWER, "%.*s", (int)left, place != NULL ? place : "");
-    text[strcspn(text, "\"")] = 0;
-    unescape(text);
-}
-
-/* Days from 1970 to a day of the Gregorian calendar. */
-static int64_t days_to(int64_t year, int64_t month, int64_t day)
-{
-    int64_t of_year = year - (month <= 2), months = (month + 9) % 12;
-    return 365 * of_year + of_year / 4 - of_year / 100 + of_year / 400 + (153 * months + 2) / 5 + day - 719469;
-}
-
-/* When a stream was made, in nanoseconds since 1970, as libnats reads it; 0 if the answer doesn't tell. */
-static uint64_t read_created(natsMsg *message)
-{
-    unsigned year, month, day, hour, minute, second;
-    char text[40];
-    uint64_t nanosecond = 0, unit = 100000000;
-    size_t left = 0;
-    const char *place = after(message, "\"created\":\"", &left), *digit;
-    int used = 0;
-    write_cut(text, sizeof text, "%.*s", (int)(left < sizeof text ? left : sizeof text - 1), place ? place : "");
-    if (sscanf(text, "%4u-%2u-%2uT%2u:%2u:%2u%n", &year, &month, &day, &hour, &minute, &second, &used) != 6)
-        return 0;
-    for (digit = text + used + (text[used] == '.'); *digit >= '0' && *digit <= '9'; digit++) {
-        nanosecond += (uint64_t)(*digit - '0') * unit;
-        unit /= 10;
-    }
-    return ((uint64_t)days_to(year, month, day) * 86400 + hour * 3600 + minute * 60 + second) * 1000000000
-           + nanosecond;
-}
-
 /* ---- Streams */
-
-void nats_ask(struct nats_carrier *c, const char *what, const char *stream, const char *reply, const char *text)
-{
-    char subject[64];
-    natsStatus status;
-    write_whole(subject, sizeof subject, "$JS.API.STREAM.%s.%s", what, stream);
-    status = natsConnection_PublishRequest(c->connection, subject, reply, text, (int)strlen(text));
-    if (status != NATS_OK)
-        nats_report("a stream", status);
-}
 
 /* Asks for a shard's stream, or has it made. */
 static void ask(struct nats_carrier *c, unsigned shard, const char *what, const char *text)
 {
-    char stream[32], reply[160];
+    char stream[32], reply[NATS_SUBJECT];
     write_whole(stream, sizeof stream, "KRB_%u", shard);
     write_whole(reply, sizeof reply, "%s.%lu.%u.stream.0", (const char *)c->inbox, ++c->questions, shard);
     c->made[shard].question = c->questions;
@@ -169,7 +61,7 @@ static void look_for(struct nats_carrier *c, unsigned shard)
         krbrelay_pause_begin(&c->made[shard].pause, AGAIN, now);
     else
         krbrelay_pause_grow(&c->made[shard].pause, AGAIN_MOST, now);
-    ask(c, shard, "INFO", "");
+    ask(c, shard, "STREAM.INFO", "");
 }
 
 int nats_make(struct carrier *base, unsigned shard, uint64_t *incarnation)
@@ -180,64 +72,47 @@ int nats_make(struct carrier *base, unsigned shard, uint64_t *incarnation)
     return c->made[shard].is_known ? 0 : CARRIER_FAULT;
 }
 
-void nats_write_stream(const struct nats_carrier *c, const char *stream, const char *subject, int of_subject,
-                       char text[NATS_STREAM])
-{
-    write_whole(text, NATS_STREAM, "{\"name\":\"%s\",\"subjects\":[\"%s\"],\"retention\":\"limits\","
-                "\"max_consumers\":-1,\"max_msgs\":-1,\"max_bytes\":-1,\"discard\":\"old\",\"max_age\":0,"
-                "\"max_msgs_per_subject\":%d,\"storage\":\"file\",\"num_replicas\":%u}", stream, subject, of_subject,
-                c->replicas);
-}
-
 static void make_stream(struct nats_carrier *c, unsigned shard)
 {
-    char stream[32], subject[32], text[NATS_STREAM];
+    char stream[32], subject[32], text[NATS_TEXT];
     write_whole(stream, sizeof stream, "KRB_%u", shard);
     write_whole(subject, sizeof subject, "krb.%u.*", shard);
     nats_write_stream(c, stream, subject, -1, text);
-    ask(c, shard, "CREATE", text);
+    ask(c, shard, "STREAM.CREATE", text);
 }
 
 /* Why the servers have no such stream. */
 static void report_unmade(struct nats_carrier *c, natsMsg *message, unsigned shard)
 {
-    char name[32], fault[ANSWER];
+    char name[32], fault[NATS_TEXT];
     write_whole(name, sizeof name, "KRB_%u", shard);
-    read_description(message, fault);
+    nats_read_description(message, fault);
     log_fact(LEVEL_ERROR, "stream_unmade", field_text("stream", name), field_number("replicas", c->replicas),
              field_text("fault", fault), field_text("text", "are there so many nodes? Tried again"));
 }
 
 /* Whether the stream can be the shard. */
-static int is_fit(struct nats_carrier *c, natsMsg *message, unsigned shard)
+static int is_fit(struct nats_carrier *c, const struct nats_stream *it, unsigned shard)
 {
     char name[32];
-    jsStreamConfig config = { .Retention = nats_says(message, "\"retention\":\"limits\"") ? js_LimitsPolicy
-                                                                                   : js_WorkQueuePolicy,
-                              .Storage = nats_says(message, "\"storage\":\"file\"") ? js_FileStorage
-                                                                              : js_MemoryStorage };
-    config.MaxMsgsPerSubject = nats_says(message, "\"max_msgs_per_subject\":-1")
-                                   ? -1 : (int64_t)nats_number_after(message, "\"max_msgs_per_subject\":");
-    config.Replicas = (int64_t)nats_number_after(message, "\"num_replicas\":");
     write_whole(name, sizeof name, "KRB_%u", shard);
-    return nats_judge_stream(c, name, &config) == NATS_OK;
+    return nats_judge_stream(c, name, it) == NATS_OK;
 }
 
 /* Reads the answer to the question about a stream: two that make the same one at once both get it. */
 static void read_stream(struct nats_carrier *c, natsMsg *message, unsigned shard)
 {
-    uint64_t created = read_created(message);
-    if (nats_says(message, "\"error\":")) {
-        c->made[shard].is_known = 0;
-        if (nats_says(message, NATS_NO_STREAM)) {
-            make_stream(c, shard);
-            return;
-        }
-        report_unmade(c, message, shard);
-    } else {
-        c->made[shard].is_known = created != 0 && is_fit(c, message, shard);
-        c->made[shard].incarnation = created;
+    struct nats_stream it;
+    natsStatus status = nats_read_stream(message, &it);
+    c->made[shard].is_known = status == NATS_OK && is_fit(c, &it, shard);
+    if (status == NATS_NOT_FOUND) {
+        make_stream(c, shard);
+        return;
     }
+    if (status == NATS_OK)
+        c->made[shard].incarnation = it.created;
+    else
+        report_unmade(c, message, shard);
     end_question(c, shard);
     if (c->made[shard].is_known)
         krbrelay_pause_begin(&c->made[shard].pause, KNOWN, milliseconds());
@@ -249,7 +124,7 @@ int nats_publish(struct carrier *base, unsigned shard, const char *session, uint
                  uint64_t number, const uint8_t *frame, size_t len)
 {
     struct nats_carrier *c = (struct nats_carrier *)base;
-    char subject[64], reply[160];
+    char subject[64], reply[NATS_SUBJECT];
     natsStatus status;
     write_whole(subject, sizeof subject, "krb.%u.%s", shard, session);
     write_whole(reply, sizeof reply, "%s.%llu.%u.%lu.%llu", (const char *)c->inbox,
@@ -267,9 +142,9 @@ int nats_publish(struct carrier *base, unsigned shard, const char *session, uint
  * confirmed. */
 static int read_answer(natsMsg *message, unsigned shard, struct confirmed *it)
 {
-    char fault[ANSWER];
+    char fault[NATS_TEXT];
     if (nats_says(message, "\"error\"")) {
-        read_description(message, fault);
+        nats_read_description(message, fault);
         log_fact(LEVEL_WARNING, "stream_takes_nothing", field_number("shard", shard), field_text("fault", fault),
                  field_text("text", "tried again"));
         return 0;
@@ -331,6 +206,7 @@ int nats_confirmed(struct carrier *base, struct confirmed *list, size_t room, in
     struct nats_carrier *c = (struct nats_carrier *)base;
     uint64_t end = milliseconds() + (uint64_t)wait;
     int count = 0, has_more = 1;
+    nats_look_at_clock(c);
     while (has_more && (size_t)count < room) {
         has_more = read_one(c, list, &count);
         if (!has_more && count == 0 && milliseconds() < end) {

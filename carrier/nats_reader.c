@@ -10,10 +10,15 @@
 #include "nats_carrier.h"
 #include "text.h"
 
-#include <stdio.h>
+#include <stdlib.h>
 #include <string.h>
 
-enum { RETRY = 100, HEARTBEAT = 500, PENDING = 256 << 20, LONGEST = 8 /* milliseconds between two looks */ };
+enum {
+    RETRY = 100,        /* milliseconds: after a fault, */
+    HEARTBEAT = 500,    /* between two messages of a consumer at most, */
+    SILENT = 1500,      /* and after which it isn't there any more */
+    PENDING = 256 << 20 /* bytes that have come and weren't fetched */
+};
 
 static void let_go(struct nats_carrier *c)
 {
@@ -21,12 +26,17 @@ static void let_go(struct nats_carrier *c)
         natsMsg_Destroy(c->held[--c->held_count]);
 }
 
+/* Ends the consumer, which servers forget then. What was fetched stays held. */
+static void leave(struct nats_carrier *c)
+{
+    natsSubscription_Destroy(c->reader);
+    c->reader = NULL;
+}
+
 void nats_stop_reading(struct nats_carrier *c)
 {
     let_go(c);
-    (void)natsSubscription_Unsubscribe(c->reader); /* servers forget it without, after a while */
-    natsSubscription_Destroy(c->reader);
-    c->reader = NULL;
+    leave(c);
 }
 
 void nats_seek(struct carrier *base, unsigned shard, uint64_t offset)
@@ -39,39 +49,55 @@ void nats_seek(struct carrier *base, unsigned shard, uint64_t offset)
     c->after = offset;
 }
 
+/* Asks for a shard's stream: NATS_NOT_FOUND if there is none, NATS_ERR if it isn't one that a shard may be. */
+static natsStatus ask_shard(struct nats_carrier *c, unsigned shard, struct nats_stream *it)
+{
+    char name[32];
+    natsStatus status;
+    write_whole(name, sizeof name, "KRB_%u", shard);
+    status = nats_ask_stream(c, name, it);
+    if (status == NATS_OK)
+        return nats_judge_stream(c, name, it);
+    if (status != NATS_NOT_FOUND)
+        (void)nats_report("a stream", status); /* CARRIER_FAULT, as for each fault */
+    return status;
+}
+
+int nats_incarnation(struct carrier *base, unsigned shard, uint64_t *incarnation, uint64_t *end)
+{
+    struct nats_carrier *c = (struct nats_carrier *)base;
+    struct nats_stream it;
+    natsStatus status;
+    nats_look_at_clock(c);
+    status = ask_shard(c, shard, &it);
+    *incarnation = status == NATS_OK ? it.created : 0;
+    *end = status == NATS_OK ? it.last : 0;
+    if (c->incarnation != *incarnation)
+        c->known = 0;
+    c->incarnation = *incarnation;
+    return status == NATS_OK || status == NATS_NOT_FOUND ? 0 : CARRIER_FAULT;
+}
+
 /* Whether the stream is there, is the one of which offsets are, and doesn't end before. */
 static int check_stream(struct nats_carrier *c)
 {
-    jsStreamInfo *info = NULL;
-    natsStatus status = nats_ask_stream(c, c->shard, &info);
-    int answer = CARRIER_FAULT;
+    struct nats_stream it;
+    natsStatus status = ask_shard(c, c->shard, &it);
     if (status == NATS_OK)
-        answer = (c->incarnation != 0 && (uint64_t)info->Created != c->incarnation)
-                         || info->State.LastSeq < c->after ? CARRIER_CHANGED : 0;
-    else if (status == NATS_NOT_FOUND && c->incarnation != 0)
-        answer = CARRIER_CHANGED;
-    else if (status != NATS_NOT_FOUND && status != NATS_ERR)
-        nats_report("a stream", status);
-    jsStreamInfo_Destroy(info);
-    return answer;
+        return (c->incarnation != 0 && it.created != c->incarnation) || it.last < c->after ? CARRIER_CHANGED : 0;
+    return status == NATS_NOT_FOUND && c->incarnation != 0 ? CARRIER_CHANGED : CARRIER_FAULT;
 }
 
 /* A consumer of the stream that delivers all after the place where the reader stands. */
 static natsStatus make_consumer(struct nats_carrier *c, const char *name)
 {
-    char subject[32];
-    jsSubOptions options;
-    jsOptions wait;
-    jsErrCode code = 0;
-    natsStatus status = nats_begin_to_consume(c, name, &options, &wait);
-    if (status != NATS_OK)
-        return status;
-    write_whole(subject, sizeof subject, "krb.%u.*", c->shard);
-    options.Config.DeliverPolicy = js_DeliverByStartSequence;
-    options.Config.OptStartSeq = c->after + 1;
-    options.Config.FlowControl = true;
-    options.Config.Heartbeat = (int64_t)HEARTBEAT * 1000000;
-    return js_SubscribeSync(&c->reader, c->js, subject, &wait, &options, &code);
+    char how[NATS_TEXT];
+    natsStatus status;
+    write_whole(how, sizeof how, "\"deliver_policy\":\"by_start_sequence\",\"opt_start_seq\":%llu,"
+                "\"filter_subject\":\"krb.%u.*\",\"flow_control\":true,\"idle_heartbeat\":%d000000",
+                (unsigned long long)c->after + 1, c->shard, HEARTBEAT);
+    status = nats_consume(c, name, how, &c->reader);
+    return status == NATS_OK ? natsSubscription_SetPendingLimits(c->reader, -1, PENDING) : status;
 }
 
 static int begin_reading(struct nats_carrier *c)
@@ -83,15 +109,12 @@ static int begin_reading(struct nats_carrier *c)
         return answer;
     write_whole(name, sizeof name, "KRB_%u", c->shard);
     status = make_consumer(c, name);
-    if (status == NATS_OK)
-        status = natsSubscription_SetPendingLimits(c->reader, -1, PENDING);
     if (status != NATS_OK) {
-        natsSubscription_Destroy(c->reader);
-        c->reader = NULL;
+        leave(c);
         return nats_report(name, status);
     }
-    __atomic_store_n(&c->is_silent, 0, __ATOMIC_SEQ_CST);
     c->delivered = 0;
+    c->heard = milliseconds();
     (void)nats_look_for_receipts(c); /* a fault is met again with the first receipt */
     return 0;
 }
@@ -106,20 +129,15 @@ static void report_gap(struct nats_carrier *c, uint64_t offset)
                  field_text("text", "they stood before the offset: were they deleted, or too old?"));
 }
 
-/* Reads what the consumer says of a message; 0 if it isn't the next one. */
-static int read_message(struct nats_carrier *c, natsMsg *message, struct carried *it)
+/* Reads a frame; 0 if it isn't the next one. */
+static int read_frame(struct nats_carrier *c, natsMsg *message, struct carried *it)
 {
-    jsMsgMetaData *meta = NULL;
     const char *name = strrchr(natsMsg_GetSubject(message), '.');
-    int is_next;
-    if (natsMsg_GetMetaData(&meta, message) != NATS_OK)
+    struct nats_place place;
+    if (!nats_read_place(message, &place) || place.turn != c->delivered + 1 || place.offset <= c->after)
         return 0;
-    is_next = meta->Sequence.Consumer == c->delivered + 1 && meta->Sequence.Stream > c->after;
-    it->offset = meta->Sequence.Stream;
-    c->pending = meta->NumPending;
-    jsMsgMetaData_Destroy(meta);
-    if (!is_next)
-        return 0;
+    c->pending = place.left;
+    it->offset = place.offset;
     write_cut(it->session, sizeof it->session, "%s", name != NULL ? name + 1 : "");
     it->frame = (const uint8_t *)natsMsg_GetData(message);
     it->len = (size_t)natsMsg_GetDataLength(message);
@@ -133,51 +151,49 @@ static int read_message(struct nats_carrier *c, natsMsg *message, struct carried
     return 1;
 }
 
-/* The next message. The library waits by a clock that may be set: so this one looks, and pauses by itself. */
-static natsStatus await_message(struct nats_carrier *c, natsMsg **message, int wait)
+/* What the consumer itself says: a heartbeat, which tells how many messages were delivered, or a question whether what
+ * came was fetched, which it was. */
+static natsStatus read_word(struct nats_carrier *c, natsMsg *message)
 {
-    natsStatus status = natsSubscription_NextMsg(message, c->reader, 0);
-    int pause = 1;
-    while (status == NATS_TIMEOUT && wait > 0) {
-        pause_milliseconds((unsigned)pause);
-        wait -= pause;
-        pause = pause < LONGEST ? 2 * pause : LONGEST;
-        status = natsSubscription_NextMsg(message, c->reader, 0);
-    }
-    return status;
+    const char *ask = natsMsg_GetReply(message), *last = NULL;
+    if (ask == NULL && natsMsgHeader_Get(message, "Nats-Consumer-Stalled", &ask) != NATS_OK)
+        ask = NULL;
+    if (ask != NULL && *ask != 0)
+        return natsConnection_Publish(c->connection, ask, NULL, 0);
+    if (natsMsgHeader_Get(message, "Nats-Last-Consumer", &last) != NATS_OK)
+        return NATS_OK;
+    return strtoull(last, NULL, 10) == c->delivered ? NATS_OK : NATS_MISMATCH;
 }
 
-/* The next message, which stays held; a status that isn't NATS_OK ends a fetch. */
-static natsStatus fetch_one(struct nats_carrier *c, struct carried *it, int milliseconds)
+/* The next frame, which stays held, if one has come: *has_frame says so. A status that isn't NATS_OK ends a fetch. */
+static natsStatus fetch_one(struct nats_carrier *c, struct carried *it, int milliseconds_to_wait, int *has_frame)
 {
     natsMsg *message = NULL;
-    natsStatus status = await_message(c, &message, milliseconds);
+    natsStatus status = nats_await(c->reader, &message, milliseconds_to_wait);
+    *has_frame = 0;
     if (status != NATS_OK)
-        return status;
-    if (!read_message(c, message, it)) {
+        return status == NATS_TIMEOUT && milliseconds() - c->heard > SILENT ? NATS_MISSED_HEARTBEAT : status;
+    c->heard = milliseconds();
+    if (strncmp(natsMsg_GetSubject(message), "krb.", 4) != 0) {
+        status = read_word(c, message);
         natsMsg_Destroy(message);
-        return NATS_MISMATCH;
+        return status;
     }
-    c->held[c->held_count++] = message;
-    return NATS_OK;
-}
-
-/* Ends the consumer. What was fetched stays held. */
-static void leave(struct nats_carrier *c, natsStatus status)
-{
-    natsSubscription *reader = c->reader;
-    c->reader = NULL;
-    (void)natsSubscription_Unsubscribe(reader); /* servers forget it without, after a while */
-    natsSubscription_Destroy(reader);
-    nats_report("a reader begins again after what it had", status);
+    *has_frame = read_frame(c, message, it);
+    if (*has_frame)
+        c->held[c->held_count++] = message;
+    else
+        natsMsg_Destroy(message);
+    return *has_frame ? NATS_OK : NATS_MISMATCH;
 }
 
 int nats_fetch(struct carrier *base, struct carried *list, size_t room, int milliseconds)
 {
     struct nats_carrier *c = (struct nats_carrier *)base;
     natsStatus status = NATS_OK;
-    int count = 0, answer;
+    int count = 0, answer, has_frame;
     let_go(c);
+    nats_look_at_clock(c);
     if (c->is_asked)
         (void)nats_look_for_receipts(c); /* as above */
     if (c->reader == NULL && (answer = begin_reading(c)) != 0) {
@@ -185,13 +201,13 @@ int nats_fetch(struct carrier *base, struct carried *list, size_t room, int mill
         return answer;
     }
     while ((size_t)count < room && count < NATS_HELD && status == NATS_OK) {
-        status = fetch_one(c, &list[count], count == 0 ? milliseconds : 0);
-        count += status == NATS_OK;
+        status = fetch_one(c, &list[count], count == 0 ? milliseconds : 0, &has_frame);
+        count += has_frame;
     }
-    if (__atomic_exchange_n(&c->is_silent, 0, __ATOMIC_SEQ_CST) && status == NATS_TIMEOUT)
-        status = NATS_MISSED_HEARTBEAT;
-    if (status != NATS_OK && status != NATS_TIMEOUT)
-        leave(c, status);
+    if (status != NATS_OK && status != NATS_TIMEOUT) {
+        leave(c);
+        (void)nats_report("a reader begins again after what it had", status); /* as above */
+    }
     return count;
 }
 

@@ -30,7 +30,7 @@ static void check_replicas(struct nats_carrier *c, uint64_t replicas)
 /* Asks about the stream. What was asked before and wasn't answered goes into the log. */
 static void ask(struct nats_carrier *c, const char *what, const char *text)
 {
-    char reply[128];
+    char reply[NATS_SUBJECT];
     if (c->is_asked)
         (void)nats_report("the stream of receipts", NATS_TIMEOUT); /* CARRIER_FAULT, as for each fault */
     write_whole(reply, sizeof reply, "%s.receipts", (const char *)c->inbox);
@@ -41,27 +41,27 @@ static void ask(struct nats_carrier *c, const char *what, const char *text)
 /* What was answered: the stream is made if there is none. */
 static void read_about(struct nats_carrier *c, natsMsg *message)
 {
-    char text[NATS_STREAM];
+    char text[NATS_TEXT];
+    struct nats_stream it;
+    natsStatus status = nats_read_stream(message, &it);
     c->is_asked = 0;
-    if (nats_says(message, NATS_NO_STREAM)) {
+    if (status == NATS_NOT_FOUND) {
         nats_write_stream(c, STREAM, SUBJECTS, 1, text);
-        ask(c, "CREATE", text);
-    } else if (nats_says(message, "\"error\":")) {
-        (void)nats_report("the stream of receipts", NATS_ERR); /* as above */
+        ask(c, "STREAM.CREATE", text);
+    } else if (status != NATS_OK) {
+        (void)nats_report("the stream of receipts", status); /* as above */
     } else {
         c->is_kept = 1;
-        check_replicas(c, nats_number_after(message, "\"num_replicas\":"));
+        check_replicas(c, it.replicas);
     }
 }
 
 /* Looks for the stream from time to time, and makes it: what is published meanwhile is heard all the same. */
 natsStatus nats_look_for_receipts(struct nats_carrier *c)
 {
-    char subject[128];
     natsStatus status = NATS_OK;
     if (c->about == NULL) {
-        write_whole(subject, sizeof subject, "%s.receipts", (const char *)c->inbox);
-        status = natsConnection_SubscribeSync(&c->about, c->connection, subject);
+        status = nats_hear(c, "receipts", &c->about);
         krbrelay_pause_begin(&c->first, FIRST, milliseconds());
     }
     while (status == NATS_OK) {
@@ -73,7 +73,7 @@ natsStatus nats_look_for_receipts(struct nats_carrier *c)
     }
     if (krbrelay_pause_is_over(&c->asking, milliseconds())) {
         krbrelay_pause_begin(&c->asking, AGAIN, milliseconds());
-        ask(c, "INFO", "");
+        ask(c, "STREAM.INFO", "");
     }
     return status == NATS_TIMEOUT || status == NATS_NO_RESPONDERS ? NATS_OK : status;
 }
@@ -96,24 +96,6 @@ int nats_acknowledge(struct carrier *base, unsigned shard, const struct carried 
 
 /* ---- A sender */
 
-/* Asks what the stream is, and how many receipts it keeps. */
-static natsStatus ask_stream(struct nats_carrier *c, uint64_t *count)
-{
-    jsStreamInfo *info = NULL;
-    jsOptions options;
-    jsErrCode code = 0;
-    natsStatus status = nats_begin_to_ask(c, &options);
-    if (status == NATS_OK)
-        status = js_GetStreamInfo(&info, c->js, STREAM, &options, &code);
-    nats_note_asked(c, status);
-    if (status == NATS_OK) {
-        check_replicas(c, (uint64_t)info->Config->Replicas);
-        *count = info->State.Msgs;
-    }
-    jsStreamInfo_Destroy(info);
-    return status;
-}
-
 /* Passes a message's receipt. */
 static void give(natsMsg *message, carrier_receipt *take, void *given)
 {
@@ -123,57 +105,42 @@ static void give(natsMsg *message, carrier_receipt *take, void *given)
         take(given, name + 1, receipt, (size_t)natsMsg_GetDataLength(message));
 }
 
-/* A consumer of the last receipt of each session. */
-static natsStatus subscribe(struct nats_carrier *c, natsSubscription **reader)
-{
-    jsSubOptions options;
-    jsOptions wait;
-    jsErrCode code = 0;
-    natsStatus status = nats_begin_to_consume(c, STREAM, &options, &wait);
-    if (status != NATS_OK)
-        return status;
-    options.Config.DeliverPolicy = js_DeliverLastPerSubject;
-    return js_SubscribeSync(reader, c->js, SUBJECTS, &wait, &options, &code);
-}
-
-/* How many messages come after one of a consumer. */
-static uint64_t left_after(natsMsg *message)
-{
-    jsMsgMetaData *meta = NULL;
-    uint64_t left = natsMsg_GetMetaData(&meta, message) == NATS_OK ? meta->NumPending : 0;
-    jsMsgMetaData_Destroy(meta);
-    return left;
-}
-
 /* Passes those that are kept, of which there are some. */
 static natsStatus read_kept(struct nats_carrier *c, carrier_receipt *take, void *given)
 {
     natsSubscription *reader = NULL;
-    natsStatus status = subscribe(c, &reader);
-    uint64_t left = status == NATS_OK;
-    while (status == NATS_OK && left > 0) {
+    struct nats_place place = { .left = 1 };
+    natsStatus status = nats_consume(c, STREAM, "\"deliver_policy\":\"last_per_subject\",\"filter_subject\":\"" SUBJECTS
+                                     "\"", &reader);
+    while (status == NATS_OK && place.left > 0) {
         natsMsg *message = NULL;
-        status = natsSubscription_NextMsg(&message, reader, 2 * c->patience);
+        status = nats_await(reader, &message, 2 * c->patience);
         if (status == NATS_OK) {
             give(message, take, given);
-            left = left_after(message);
+            status = nats_read_place(message, &place) ? NATS_OK : NATS_MISMATCH;
         }
         natsMsg_Destroy(message);
     }
-    (void)natsSubscription_Unsubscribe(reader); /* servers forget it without, after a while */
     natsSubscription_Destroy(reader);
     return status;
+}
+
+natsStatus nats_hear_receipts(struct nats_carrier *c)
+{
+    return natsConnection_SubscribeSync(&c->receipts, c->connection, SUBJECTS);
 }
 
 /* Begins to hear them, and reads what is kept: without it a sender hears what it needs by its probes. */
 static natsStatus begin_to_hear(struct nats_carrier *c, carrier_receipt *take, void *given)
 {
-    natsStatus status = natsConnection_SubscribeSync(&c->receipts, c->connection, SUBJECTS), kept;
-    uint64_t count = 0;
+    natsStatus status = nats_hear_receipts(c), kept;
+    struct nats_stream it;
     if (status != NATS_OK)
         return status;
-    kept = ask_stream(c, &count);
-    if (kept == NATS_OK && count > 0)
+    kept = nats_ask_stream(c, STREAM, &it);
+    if (kept == NATS_OK)
+        check_replicas(c, it.replicas);
+    if (kept == NATS_OK && it.messages > 0)
         kept = read_kept(c, take, given);
     if (kept != NATS_OK && kept != NATS_NOT_FOUND)
         (void)nats_report("the last receipts", kept); /* CARRIER_FAULT, as for each fault */

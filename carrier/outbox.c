@@ -80,14 +80,12 @@ static const char *const sql[OUTBOX_STATEMENTS] = {
                         " LIMIT ?"),
     [HAS_TEXT] = "SELECT 1 FROM text WHERE id > ? LIMIT 1",
     [DROP_TEXTS] = "DELETE FROM text WHERE id >= ? AND id <= ?",
-    [ADD_FRAME] = "INSERT INTO frame (session, number, frame, history) VALUES (?, ?, ?, ?)",
     [SELECT_HISTORY] = "SELECT history FROM frame WHERE session = ? AND number = ?",
     [SET_STANDS] = ("UPDATE session SET stands = ?1, stood = iif(?1 = 0, 0, CAST(strftime('%s') AS INTEGER))"
                     " WHERE name = ?2"),
     [SELECT_FRAMES] = ("SELECT number, frame FROM frame WHERE session = ? AND number >= ?"
                        " ORDER BY number LIMIT ?"),
     [DROP_FRAMES] = "DELETE FROM frame WHERE session = ? AND number < ?",
-    [ADD_SEALED] = "INSERT INTO sealed VALUES (?, ?, ?, ?)",
     [DROP_SEALED] = "DELETE FROM sealed WHERE session = ? AND number < ?",
     [SET_NEXT] = ("INSERT INTO session (name, next, carried, at, shard, done)"
                   " SELECT ?2, ?1, ?5, 0, ?4, ?5"
@@ -118,6 +116,11 @@ static const char *const sql[OUTBOX_STATEMENTS] = {
                       " WHERE near.stream = ?1 AND near.turn IN (opened.turn, opened.turn + 1)) LIMIT ?3"),
     [DROP_OPENED] = "DELETE FROM opened WHERE name = ?",
     [FORGET_SESSION] = "DELETE FROM session WHERE name = ? AND done = next",
+};
+
+static const char *const rows_sql[OUTBOX_ROWS] = {
+    [ADD_FRAME] = "INSERT INTO frame (session, number, frame, history) VALUES (?, ?, ?, ?)",
+    [ADD_SEALED] = "INSERT INTO sealed (text, session, number, part) VALUES (?, ?, ?, ?)",
 };
 
 static sqlite3_int64 owner(struct outbox *o)
@@ -169,7 +172,9 @@ int outbox_open(struct outbox *o, const char *path)
     }
     o->db = open_database(path, tables);
     if (o->db == NULL || find_file(path, &o->device, &o->inode) != 0 || complete(o) != 0
-        || prepare_all(o->db, o->statements, sql, OUTBOX_STATEMENTS) != 0)
+        || prepare_all(o->db, o->statements, sql, OUTBOX_STATEMENTS) != 0
+        || prepare_rows(o->db, &o->rows[ADD_FRAME], rows_sql[ADD_FRAME]) != 0
+        || prepare_rows(o->db, &o->rows[ADD_SEALED], rows_sql[ADD_SEALED]) != 0)
         return -1;
     if (begin_writing(o->db) != 0 || run(o->db, "UPDATE owner SET turn = turn + 1") != 0
         || outbox_drop_stopped(o) != 0)
@@ -188,6 +193,8 @@ int outbox_bound(struct outbox *o, unsigned texts)
 void outbox_close(struct outbox *o)
 {
     finalize(o->statements, OUTBOX_STATEMENTS);
+    finalize(&o->rows[ADD_FRAME].all, 1);
+    finalize(&o->rows[ADD_SEALED].all, 1);
     close_database(o->db);
 }
 
@@ -354,23 +361,30 @@ int outbox_drop_texts(struct outbox *o, sqlite3_int64 first, sqlite3_int64 last)
 int outbox_add_frame(struct outbox *o, const char *session, uint64_t number, const uint8_t *frame,
                      size_t len, const struct history *history)
 {
-    struct statement *add = &o->statements[ADD_FRAME];
-    bind_text(add, 1, session);
-    bind_number(add, 2, (sqlite3_int64)number);
-    bind_bytes(add, 3, frame, len);
-    bind_bytes(add, 4, history->bytes, history->is_known ? sizeof history->bytes : 0);
-    return step_once(add);
+    struct rows *add = &o->rows[ADD_FRAME];
+    int at = next_row(add);
+    bind_text(&add->all, at + 1, session);
+    bind_number(&add->all, at + 2, (sqlite3_int64)number);
+    bind_copy(add, at + 3, frame, len);
+    bind_copy(add, at + 4, history->bytes, history->is_known ? sizeof history->bytes : 0);
+    return add_row(add);
 }
 
 int outbox_add_sealed(struct outbox *o, sqlite3_int64 text, const char *session, uint64_t number,
                       unsigned part)
 {
-    struct statement *add = &o->statements[ADD_SEALED];
-    bind_number(add, 1, text);
-    bind_text(add, 2, session);
-    bind_number(add, 3, (sqlite3_int64)number);
-    bind_number(add, 4, part);
-    return step_once(add);
+    struct rows *add = &o->rows[ADD_SEALED];
+    int at = next_row(add);
+    bind_number(&add->all, at + 1, text);
+    bind_text(&add->all, at + 2, session);
+    bind_number(&add->all, at + 3, (sqlite3_int64)number);
+    bind_number(&add->all, at + 4, part);
+    return add_row(add);
+}
+
+int outbox_insert(struct outbox *o)
+{
+    return insert_rows(&o->rows[ADD_FRAME]) == 0 && insert_rows(&o->rows[ADD_SEALED]) == 0 ? 0 : -1;
 }
 
 int outbox_set_next(struct outbox *o, const struct session *session, uint64_t from, uint64_t to)
@@ -436,11 +450,13 @@ int outbox_drop_stopped(struct outbox *o)
 
 int outbox_commit(struct outbox *o)
 {
-    return run(o->db, "COMMIT");
+    return outbox_insert(o) == 0 ? run(o->db, "COMMIT") : -1;
 }
 
 void outbox_rollback(struct outbox *o)
 {
+    forget_rows(&o->rows[ADD_FRAME]);
+    forget_rows(&o->rows[ADD_SEALED]);
     roll_back(o->db);
 }
 

@@ -32,20 +32,22 @@
 /* end of limits */
 
 enum outbox_statement {
-    LOAD_SESSION, SELECT_TEXTS, SELECT_WAITING, HAS_TEXT, DROP_TEXTS, ADD_FRAME, SELECT_FRAMES, DROP_FRAMES,
-    SELECT_HISTORY, SET_STANDS,
-    ADD_SEALED, DROP_SEALED,
+    LOAD_SESSION, SELECT_TEXTS, SELECT_WAITING, HAS_TEXT, DROP_TEXTS, SELECT_FRAMES, DROP_FRAMES,
+    SELECT_HISTORY, SET_STANDS, DROP_SEALED,
     SET_NEXT, SET_CARRIED, SELECT_OWNER, SELECT_SENDING, ADD_STOPPED, DROP_STOPPED, END_STOPPED,
     COUNT_STOPPED, COUNT_TEXTS,
     OLDEST_TEXT, ADD_OPENED, SELECT_OPENED, SELECT_STREAM, CLOSE_OPENED, SELECT_ENDED, DROP_OPENED, FORGET_SESSION,
     SELECT_WRAPPED, SET_RENEWED, SELECT_RENEWED, OUTBOX_STATEMENTS
 };
 
+enum outbox_rows { ADD_FRAME, ADD_SEALED, OUTBOX_ROWS };
+
 enum { OUTBOX_PATH = 4096 };
 
 struct outbox {
     sqlite3 *db;
     struct statement statements[OUTBOX_STATEMENTS];
+    struct rows rows[OUTBOX_ROWS];
     sqlite3_int64 turn; /* those who opened this outbox are counted: this is the turn'th */
     char path[OUTBOX_PATH]; /* where it is, and which file is there */
     uint64_t device, inode;
@@ -115,13 +117,17 @@ int outbox_next_waiting(struct outbox *outbox, struct waiting_text *text);
 void outbox_end_waiting(struct outbox *outbox);
 int outbox_drop_texts(struct outbox *outbox, sqlite3_int64 first, sqlite3_int64 last);
 
-/* Adds a frame, with the history of the session up to it. */
+/* Adds a frame, with the history of the session up to it. What is added can be read once outbox_insert was called, or the
+ * transaction was committed; the session's name stays until then. */
 int outbox_add_frame(struct outbox *outbox, const char *session, uint64_t number,
                      const uint8_t *frame, size_t len, const struct history *history);
 
 /* Stores that a text is sealed under this number, as this part of the record. */
 int outbox_add_sealed(struct outbox *outbox, sqlite3_int64 text, const char *session,
                       uint64_t number, unsigned part);
+
+/* Inserts what was added. */
+int outbox_insert(struct outbox *outbox);
 
 /* Moves a session's next number, by compare-and-set: one that has no row stands at its first
  * number. */

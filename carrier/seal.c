@@ -7,6 +7,11 @@
 #include <string.h>
 #include <sys/random.h>
 
+/* The first byte of a record's user data: of a text, of several, and of the close, which has no more. */
+enum { TEXT = 'D', BATCH = 'B', CLOSE = 'C' };
+
+enum { RECORDS = 2048, BYTES = 1 << 20 }; /* that wait: so many at most, of so many bytes; the longest has room */
+
 /* 16 bytes that nobody can foresee; they are drawn some hundred at a time. */
 static int draw(uint8_t confounder[16])
 {
@@ -23,68 +28,143 @@ static int draw(uint8_t confounder[16])
     return 0;
 }
 
-static enum seal_answer stop(struct sending *it, sqlite3_int64 at, const char *reason)
+static enum seal_answer stop(struct sealing *s, struct sending *it, sqlite3_int64 at, const char *reason)
 {
     it->stopped_at = at;
     write_cut(it->reason, sizeof it->reason, "%s", reason);
+    s->stopped = it;
     return SEAL_STOP;
 }
 
-/* What fails for another reason than that memory is out fails again. */
-static enum seal_answer judge(struct sending *it, enum krbrelay_answer answer)
+/* What fails for another reason than that memory is out fails again: of the record with this index. */
+static enum seal_answer judge(struct sealing *s, struct sending *it, size_t index, enum krbrelay_answer answer)
 {
     char text[KRBRELAY_TEXT_SIZE];
-    if (answer == KRBRELAY_OK)
-        return SEAL_OK;
-    report_answer("text_unsealed", it->of.name, it->sealed, answer);
+    const struct record *record = it->first;
+    report_answer("text_unsealed", it->of.name, it->sealed - it->waiting + index, answer);
     answer_text(answer, text);
-    return answer == KRBRELAY_MEMORY ? SEAL_FAULT : stop(it, it->begin, text);
+    while (index-- > 0)
+        record = record->next;
+    return answer == KRBRELAY_MEMORY ? SEAL_FAULT : stop(s, it, record->begin, text);
 }
+
+/* ---- Records that wait */
 
 /* The last number is kept for the close, as krb_peers keeps it. */
-static int has_number(const struct sending *it, uint32_t kind)
+static int has_number(const struct sending *it, uint8_t kind)
 {
-    return it->sealed < UINT32_MAX || (it->sealed == UINT32_MAX && kind == KRBRELAY_CLOSE);
+    return it->sealed < UINT32_MAX || (it->sealed == UINT32_MAX && kind == CLOSE);
 }
 
+/* Adds a record, which gets the session's next number. */
+static enum seal_answer add_record(struct sealing *s, struct sending *it, uint8_t kind, const uint8_t *bytes,
+                                   size_t len)
+{
+    enum seal_answer answer = SEAL_OK;
+    struct record *record;
+    if (!has_number(it, kind))
+        return stop(s, it, it->begin, "it has no number left: it needs a new key");
+    if (s->count == RECORDS || s->size + len + 1 > BYTES)
+        answer = seal_all(s);
+    if (answer != SEAL_OK)
+        return answer;
+    record = &s->records[s->count++];
+    *record = (struct record){ it, it->begin, s->size, len + 1, NULL };
+    s->bytes[s->size] = kind;
+    if (len > 0)
+        memcpy(s->bytes + s->size + 1, bytes, len);
+    s->size += len + 1;
+    *(it->first == NULL ? &it->first : &it->last->next) = record;
+    it->last = record;
+    it->waiting++;
+    it->sealed++;
+    return SEAL_OK;
+}
+
+void seal_forget(struct sealing *s)
+{
+    explicit_bzero(s->bytes, s->size);
+    s->count = s->size = 0;
+}
+
+/* ---- Sealing them */
+
+/* A session's sealer at its first record that isn't sealed. */
 static enum krbrelay_answer make_sealer(struct sending *it)
 {
     const struct session *of = &it->of;
-    struct krbrelay_session session = { .mode = of->mode, .first = (uint32_t)it->sealed,
-                                        .sender = of->from };
-    if (it->sealer.at != NULL)
-        return KRBRELAY_OK;
-    return krbrelay_sealer_new(&it->sealer, of->etype, of->key, of->key_len, &session);
+    const uint64_t number = it->sealed - it->waiting;
+    struct krbrelay_session session = { .mode = of->mode, .first = (uint32_t)number, .sender = of->from };
+    uint64_t next = number;
+    enum krbrelay_answer answer = it->sealer.at != NULL ? krbrelay_sealer_next(&it->sealer, &next)
+        : krbrelay_sealer_new(&it->sealer, of->etype, of->key, of->key_len, &session);
+    return answer == KRBRELAY_OK && next != number ? KRBRELAY_ARGUMENT : answer; /* never: both count each record */
 }
 
-/* Seals a record, and stores its frame. */
-static enum seal_answer seal(struct sealing *s, struct sending *it, uint32_t kind,
-                             const uint8_t *bytes, size_t len)
+/* The next records of a session that one call seals: how many, 0 if nothing can be drawn. */
+static size_t gather(const struct sealing *s, const struct sending *it, struct krbrelay_unsealed *to)
 {
-    uint8_t confounder[16];
-    uint64_t number = it->sealed, began = nanoseconds();
-    struct krbrelay_moment now = read_clock();
+    const struct krbrelay_moment now = read_clock();
+    const struct record *record = it->first;
+    size_t count = 0, room = KRBRELAY_FRAME_LIMIT;
+    while (record != NULL && count < KRBRELAY_MOST_MESSAGES && KRBRELAY_FRAME_SIZE(record->len) <= room) {
+        to[count] = (struct krbrelay_unsealed){ s->bytes + record->at, record->len, now, { 0 } };
+        if (draw(to[count++].confounder) != 0)
+            return 0;
+        room -= KRBRELAY_FRAME_SIZE(record->len);
+        record = record->next;
+    }
+    return count;
+}
+
+/* Stores the frames of a session's first records. */
+static enum seal_answer store_frames(struct sealing *s, struct sending *it, const size_t *sizes, size_t count)
+{
+    const uint8_t *frame = s->made;
+    size_t i;
+    for (i = 0; i < count; i++) {
+        if (history_add(&it->history, frame, sizes[i]) != 0
+            || outbox_add_frame(s->outbox, it->of.name, it->sealed - it->waiting, frame, sizes[i], &it->history) != 0)
+            return SEAL_FAULT;
+        frame += sizes[i];
+        it->first = it->first->next;
+        it->waiting--;
+    }
+    s->frames += count;
+    return SEAL_OK;
+}
+
+/* Seals the next records of a session. */
+static enum seal_answer seal_some(struct sealing *s, struct sending *it)
+{
+    struct krbrelay_unsealed some[KRBRELAY_MOST_MESSAGES];
+    size_t sizes[KRBRELAY_MOST_MESSAGES], failed = 0, count = gather(s, it, some);
+    const uint64_t began = nanoseconds();
     enum krbrelay_answer answer;
-    size_t size = 0;
-    if (!has_number(it, kind))
-        return stop(it, it->begin, "it has no number left: it needs a new key");
-    if (draw(confounder) != 0)
+    if (count == 0)
         return SEAL_FAULT;
     answer = make_sealer(it);
     if (answer == KRBRELAY_OK)
-        answer = krbrelay_sealer_seal_record(&it->sealer, kind, bytes, len, &now, confounder,
-                                             s->frame, KRBRELAY_FRAME_LIMIT, &size);
-    if (answer == KRBRELAY_OK)
-        answer = krbrelay_sealer_next(&it->sealer, &it->sealed);
+        answer = krbrelay_sealer_seal_many(&it->sealer, some, count, s->made, KRBRELAY_FRAME_LIMIT, sizes, &failed);
+    explicit_bzero(some, count * sizeof *some);
     s->nanoseconds += nanoseconds() - began;
-    if (answer != KRBRELAY_OK)
-        return judge(it, answer);
-    s->frames++;
-    if (history_add(&it->history, s->frame, size) != 0)
-        return SEAL_FAULT;
-    return outbox_add_frame(s->outbox, it->of.name, number, s->frame, size, &it->history) == 0 ? SEAL_OK
-                                                                                               : SEAL_FAULT;
+    return answer == KRBRELAY_OK ? store_frames(s, it, sizes, count) : judge(s, it, failed, answer);
 }
+
+enum seal_answer seal_all(struct sealing *s)
+{
+    enum seal_answer answer = SEAL_OK;
+    size_t i = 0;
+    while (i < s->count && answer == SEAL_OK)
+        if (s->records[i].of->first != NULL)
+            answer = seal_some(s, s->records[i].of);
+        else
+            i++;
+    seal_forget(s);
+    return answer == SEAL_OK && outbox_insert(s->outbox) != 0 ? SEAL_FAULT : answer;
+}
+
+/* ---- Texts */
 
 /* Room for another text of so many bytes. */
 static int grow(struct sending *it, size_t len)
@@ -109,9 +189,9 @@ enum seal_answer seal_rest(struct sealing *s, struct sending *it)
     if (it->texts == 0)
         return SEAL_OK;
     if (it->texts > 1)
-        answer = seal(s, it, KRBRELAY_BATCH, it->batch, it->size);
+        answer = add_record(s, it, BATCH, it->batch, it->size);
     else if (krbrelay_batch_next(it->batch, it->size, &at, &text, &len) == KRBRELAY_OK)
-        answer = seal(s, it, KRBRELAY_TEXT, text, len);
+        answer = add_record(s, it, TEXT, text, len);
     it->texts = 0;
     it->size = 0;
     return answer;
@@ -129,7 +209,7 @@ enum seal_answer seal_close(struct sealing *s, struct sending *it, sqlite3_int64
 {
     enum seal_answer answer = seal_rest(s, it);
     it->begin = id;
-    return answer == SEAL_OK ? seal(s, it, KRBRELAY_CLOSE, NULL, 0) : answer;
+    return answer == SEAL_OK ? add_record(s, it, CLOSE, NULL, 0) : answer;
 }
 
 /* The close that an application put in. */
@@ -150,7 +230,12 @@ enum seal_answer seal_text(struct sealing *s, struct sending *it, const struct w
     if (text->len > TEXT_BYTES) {
         write_cut(reason, sizeof reason, "a text has %zu bytes: the most are %d", text->len,
                   TEXT_BYTES);
-        return stop(it, text->id, reason);
+        return stop(s, it, text->id, reason);
+    }
+    if (s->batch == 1) {
+        it->begin = text->id;
+        answer = note_sealed(s, it, text->id, 0);
+        return answer == SEAL_OK ? add_record(s, it, TEXT, text->body, text->len) : answer;
     }
     if (it->texts > 0 && it->size + text->len > BATCH_BYTES)
         answer = seal_rest(s, it);
@@ -171,9 +256,29 @@ void seal_reset(struct sending *it, const struct history *history)
     if (it->sealed != it->end.progress.next)
         krbrelay_sealer_free(&it->sealer);
     it->sealed = it->end.progress.next;
+    it->first = it->last = NULL;
+    it->waiting = 0;
     it->history = *history;
     it->texts = 0;
     it->size = 0;
+}
+
+int seal_begin(struct sealing *s, struct outbox *outbox, unsigned batch)
+{
+    *s = (struct sealing){ .outbox = outbox, .batch = batch };
+    s->records = calloc(RECORDS, sizeof *s->records);
+    s->bytes = malloc(BYTES);
+    s->made = malloc(KRBRELAY_FRAME_LIMIT);
+    return s->records != NULL && s->bytes != NULL && s->made != NULL ? 0 : -1;
+}
+
+void seal_end(struct sealing *s)
+{
+    if (s->bytes != NULL)
+        explicit_bzero(s->bytes, BYTES);
+    free(s->records);
+    free(s->bytes);
+    free(s->made);
 }
 
 void seal_free(struct sending *it)

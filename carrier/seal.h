@@ -1,9 +1,9 @@
-/* Seals the texts of one session into records, whose frames the outbox stores. All of this is done
- * within a transaction of the outbox: what doesn't answer SEAL_OK wants it to be given up, and the
- * session to be reset. The records and the numbers are libkrbrelay's.
+/* Seals texts into records, whose frames the outbox stores. All of this is done within a transaction of the
+ * outbox: what doesn't answer SEAL_OK wants it to be given up, and its sessions to be reset. Records get their
+ * numbers in turn, and those of a transaction are sealed together, since that is quicker.
  *
- * SEAL_FAULT may pass. SEAL_STOP won't: the texts from `stopped_at` on can't be sealed, `reason`
- * says why, and those before them still can. */
+ * SEAL_FAULT may pass. SEAL_STOP won't: of the session `stopped` the texts from `stopped_at` on can't be sealed,
+ * `reason` says why, and those before them still can. */
 #ifndef SEAL_H
 #define SEAL_H
 
@@ -27,9 +27,11 @@ struct sending {
     struct outbox_progress kept, next_kept; /* what the outbox has, and has after this transaction */
     struct krbrelay_sending end;   /* how far it is, and why it stands: krb_engine's */
     uint64_t room;              /* so many frames more may be stored */
-    uint64_t sealed;            /* the sealer's next number, which is end.progress.next once stored, */
-    struct history history;     /* of all frames below it */
-    uint8_t *batch;             /* the texts that wait for being sealed together, */
+    uint64_t sealed;            /* the next record's number, which is end.progress.next once stored; */
+    struct record *first, *last; /* the records below it that aren't sealed yet, */
+    uint64_t waiting;           /* so many, */
+    struct history history;     /* and that of the frames of those before */
+    uint8_t *batch;             /* the texts of the next record, */
     size_t size, batch_room;
     unsigned texts;
     sqlite3_int64 begin;        /* of which this is the first */
@@ -45,22 +47,39 @@ struct sending {
     uint32_t stands, stands_now; /* why it stands, as the outbox has it, and now: KRBRELAY_STANDS_* */
 };
 
+/* A record that isn't sealed yet: its session, its first text, its user data, and the session's next one. */
+struct record { struct sending *of; sqlite3_int64 begin; size_t at, len; struct record *next; };
+
 struct sealing {
     struct outbox *outbox;
     unsigned batch;         /* so many texts go into one record at most */
-    uint8_t *frame;         /* KRBRELAY_FRAME_LIMIT bytes */
+    struct record *records; /* those that aren't sealed yet, */
+    uint8_t *bytes;         /* and their user data, */
+    size_t count, size;     /* so many and so long */
+    uint8_t *made;          /* room for frames: KRBRELAY_FRAME_LIMIT bytes */
+    struct sending *stopped;
     unsigned long frames;   /* so many were sealed, */
     uint64_t nanoseconds;   /* in so much time */
 };
 
+/* 0, or -1 if there is no memory; the end overwrites what is left of texts. */
+int seal_begin(struct sealing *s, struct outbox *outbox, unsigned batch);
+void seal_end(struct sealing *s);
+
 /* Takes one text, or the close if its body is NULL. */
 enum seal_answer seal_text(struct sealing *s, struct sending *it, const struct waiting_text *text);
 
-/* Seals the texts that wait, and then the close. */
+/* Ends the record of the texts that wait, and adds the close. */
 enum seal_answer seal_close(struct sealing *s, struct sending *it, sqlite3_int64 id);
 
-/* Seals the texts that wait. */
+/* Ends the record of the texts that wait. */
 enum seal_answer seal_rest(struct sealing *s, struct sending *it);
+
+/* Seals all records, and stores their frames. Before the transaction is committed. */
+enum seal_answer seal_all(struct sealing *s);
+
+/* Forgets them: the transaction is given up. */
+void seal_forget(struct sealing *s);
 
 /* Makes the session what it was before the transaction: with the history of all frames that the outbox
  * has. */

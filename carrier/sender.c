@@ -98,23 +98,29 @@ static int keep_begun(struct sender *s, const struct sending *it)
     return it->is_closing ? outbox_close_begun(&s->outbox, it->begun) : 0;
 }
 
-/* Stores what was sealed. */
-static enum seal_answer keep_sealed(struct sender *s, struct sending **stopped)
+/* Stores what was sealed of a session. */
+static enum seal_answer keep_session(struct sender *s, const struct sending *it)
 {
-    size_t i;
-    for (i = 0; i < s->touched.count; i++) {
-        struct sending *it = s->touched.at[i];
-        enum seal_answer answer = seal_rest(&s->sealing, it);
-        *stopped = it;
-        if (answer != SEAL_OK)
-            return answer;
-        if (it->begun != NULL && keep_begun(s, it) != 0)
-            return SEAL_FAULT;
-        if (it->sealed > it->end.progress.next
-            && outbox_set_next(&s->outbox, &it->of, it->end.progress.next, it->sealed) != 0)
-            return SEAL_FAULT;
-    }
+    if (it->begun != NULL && keep_begun(s, it) != 0)
+        return SEAL_FAULT;
+    if (it->sealed > it->end.progress.next
+        && outbox_set_next(&s->outbox, &it->of, it->end.progress.next, it->sealed) != 0)
+        return SEAL_FAULT;
     return SEAL_OK;
+}
+
+/* Seals what waits, and stores it. */
+static enum seal_answer keep_sealed(struct sender *s)
+{
+    enum seal_answer answer = SEAL_OK;
+    size_t i;
+    for (i = 0; i < s->touched.count && answer == SEAL_OK; i++)
+        answer = seal_rest(&s->sealing, s->touched.at[i]);
+    if (answer == SEAL_OK)
+        answer = seal_all(&s->sealing);
+    for (i = 0; i < s->touched.count && answer == SEAL_OK; i++)
+        answer = keep_session(s, s->touched.at[i]);
+    return answer;
 }
 
 /* What is stored of a session that has gone on. */
@@ -176,6 +182,7 @@ static void give_up(struct sender *s, sqlite3_int64 seen)
     size_t i;
     outbox_rollback(&s->outbox);
     s->ended.count = 0;
+    seal_forget(&s->sealing);
     texts_give_up(s, seen);
     for (i = 0; i < s->touched.count; i++) {
         struct sending *it = s->touched.at[i];
@@ -194,14 +201,13 @@ static enum outbox_answer store(struct sender *s, int with_texts)
 {
     enum outbox_answer begun = outbox_begin(&s->outbox);
     enum seal_answer answer = SEAL_OK;
-    struct sending *stopped = NULL;
     sqlite3_int64 seen = s->seen;
     if (begun != OUTBOX_OK)
         return begun;
     if (with_texts)
-        answer = texts_take(s, &stopped);
+        answer = texts_take(s);
     if (answer == SEAL_OK)
-        answer = keep_sealed(s, &stopped);
+        answer = keep_sealed(s);
     if (answer == SEAL_OK)
         answer = keep_dirty(s);
     if (answer == SEAL_OK && outbox_commit(&s->outbox) == 0) {
@@ -211,7 +217,7 @@ static enum outbox_answer store(struct sender *s, int with_texts)
     }
     give_up(s, seen);
     if (answer == SEAL_STOP)
-        return sender_stop(s, stopped->of.name, stopped->reason);
+        return sender_stop(s, s->sealing.stopped->of.name, s->sealing.stopped->reason);
     pause_milliseconds(PAUSE);
     return OUTBOX_AGAIN;
 }
@@ -439,11 +445,9 @@ static enum outbox_answer serve(struct sender *s)
 
 static int make_memory(struct sender *s)
 {
-    s->sealing.outbox = &s->outbox;
-    s->sealing.batch = s->options.batch;
-    s->sealing.frame = malloc(KRBRELAY_FRAME_LIMIT);
+    int is_made = seal_begin(&s->sealing, &s->outbox, s->options.batch) == 0;
     s->opening = malloc(OPENING);
-    if (s->sealing.frame != NULL && s->opening != NULL)
+    if (is_made && s->opening != NULL)
         return 0;
     log_system("out_of_memory", "sender");
     return -1;
@@ -497,7 +501,7 @@ static void stop(struct sender *s)
         carrier_close(s->carrier);
     sessions_forget(s->sessions);
     sessions_forget(s->newer);
-    free(s->sealing.frame);
+    seal_end(&s->sealing);
 }
 
 static int work(struct sender *s)

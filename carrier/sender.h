@@ -165,8 +165,8 @@ int sender_try_left(struct sender *s);
 /* Whether texts may be taken now. */
 int texts_wait(struct sender *s);
 
-/* Takes them, within a transaction. After SEAL_STOP *stopped is the session. */
-enum seal_answer texts_take(struct sender *s, struct sending **stopped);
+/* Takes them, within a transaction. */
+enum seal_answer texts_take(struct sender *s);
 
 /* The transaction was given up, which began when all texts up to this one were looked at. */
 void texts_give_up(struct sender *s, sqlite3_int64 seen);

@@ -12,13 +12,14 @@
 
 enum { PENDING = 4096, POLL = 5 };
 enum {
-    INSERT, SELECT, SELECT_END, COUNT, ADD_RECEIPT, SELECT_RECEIPTS, DROP_RECEIPT, STATEMENTS
+    SELECT, SELECT_END, COUNT, ADD_RECEIPT, SELECT_RECEIPTS, DROP_RECEIPT, STATEMENTS
 };
 
 struct sqlite_carrier {
     struct carrier base;
     sqlite3 *db;
     struct statement statements[STATEMENTS];
+    struct rows added;     /* frames that were published, and aren't inserted yet */
     uint64_t incarnation;
     /* What was published since the last confirmations, in one transaction. */
     struct confirmed pending[PENDING];
@@ -44,7 +45,6 @@ static const char tables[] =
     "INSERT OR IGNORE INTO incarnation VALUES (1, 1 + (random() & 9007199254740991))";
 
 static const char *const sql[STATEMENTS] = {
-    [INSERT] = "INSERT INTO carried (shard, session, frame) VALUES (?, ?, ?)",
     [SELECT] = "SELECT offset, session, frame FROM carried WHERE shard = ? AND offset > ?"
                " ORDER BY offset LIMIT ?",
     [COUNT] = "SELECT count(*) FROM (SELECT 1 FROM carried WHERE shard = ? AND offset > ?"
@@ -57,6 +57,8 @@ static const char *const sql[STATEMENTS] = {
     [DROP_RECEIPT] = "DELETE FROM receipt WHERE session = ? AND turn < (SELECT max(turn) FROM receipt)",
     [SELECT_END] = "SELECT coalesce(max(offset), 0) FROM carried WHERE shard = ?",
 };
+
+static const char insert[] = "INSERT INTO carried (shard, session, frame) VALUES (?, ?, ?)";
 
 static int incarnation(struct carrier *base, unsigned shard, uint64_t *incarnation, uint64_t *end)
 {
@@ -93,24 +95,39 @@ static int begin_publishing(struct sqlite_carrier *c)
     return c->stored == 0 ? begin_writing(c->db) : 0;
 }
 
+/* Gives up what was published since the last confirmations. */
+static int give_up(struct sqlite_carrier *c)
+{
+    forget_rows(&c->added);
+    roll_back(c->db);
+    c->stored = 0;
+    return -1;
+}
+
+/* The frames that were inserted last have offsets one after the other. */
+static void note_offsets(struct sqlite_carrier *c, int count)
+{
+    uint64_t last = (uint64_t)sqlite3_last_insert_rowid(c->db);
+    for (; count > 0; count--)
+        c->pending[c->stored - (size_t)count].offset = last + 1 - (uint64_t)count;
+}
+
 static int publish(struct carrier *base, unsigned shard, const char *session, uint32_t tag,
                    uint64_t number, const uint8_t *frame, size_t len)
 {
     struct sqlite_carrier *c = (struct sqlite_carrier *)base;
-    struct statement *insert = &c->statements[INSERT];
+    struct rows *rows = &c->added;
+    int at = next_row(rows), count = rows->count + 1;
     if (begin_publishing(c) != 0)
         return -1;
-    bind_number(insert, 1, shard);
-    bind_text(insert, 2, session);
-    bind_bytes(insert, 3, frame, len);
-    if (step_once(insert) != 0) {
-        roll_back(c->db);
-        c->stored = 0;
-        return -1;
-    }
-    c->pending[c->stored].tag = tag;
-    c->pending[c->stored].number = number;
-    c->pending[c->stored++].offset = (uint64_t)sqlite3_last_insert_rowid(c->db);
+    bind_number(&rows->all, at + 1, shard);
+    bind_name(rows, at + 2, session);
+    bind_copy(rows, at + 3, frame, len);
+    c->pending[c->stored++] = (struct confirmed){ tag, number, 0 };
+    if (add_row(rows) != 0)
+        return give_up(c);
+    if (rows->count == 0)
+        note_offsets(c, count);
     return 0;
 }
 
@@ -120,11 +137,12 @@ static int confirmed(struct carrier *base, struct confirmed *list, size_t room, 
     int count = 0;
     (void)milliseconds;
     if (!c->is_committed && c->stored > 0) {
-        if (run(c->db, "COMMIT") != 0) {
-            roll_back(c->db);
-            c->stored = 0;
-            return -1;
-        }
+        int last = c->added.count;
+        if (insert_rows(&c->added) != 0)
+            return give_up(c);
+        note_offsets(c, last);
+        if (run(c->db, "COMMIT") != 0)
+            return give_up(c);
         c->is_committed = 1;
     }
     while ((size_t)count < room && c->confirmed < c->stored)
@@ -275,6 +293,7 @@ static void close_it(struct carrier *base)
 {
     struct sqlite_carrier *c = (struct sqlite_carrier *)base;
     finalize(c->statements, STATEMENTS);
+    finalize(&c->added.all, 1);
     close_database(c->db);
     free(c->frames);
     free(c);
@@ -287,7 +306,8 @@ static int open_it(struct sqlite_carrier *c, const char *path)
     c->frames = malloc(c->room);
     c->db = open_database(path, tables);
     if (c->frames == NULL || c->db == NULL
-        || prepare_all(c->db, c->statements, sql, STATEMENTS) != 0)
+        || prepare_all(c->db, c->statements, sql, STATEMENTS) != 0
+        || prepare_rows(c->db, &c->added, insert) != 0)
         return -1;
     if (prepare(c->db, &select, "SELECT number FROM incarnation") == 0 && step_row(&select) == 1)
         c->incarnation = (uint64_t)sqlite3_column_int64(select.at, 0);

@@ -100,8 +100,9 @@ static enum seal_answer look_at(struct sender *s, const struct waiting_text *tex
 }
 
 /* Looks at the texts after those that were looked at. */
-static enum seal_answer take_new(struct sender *s, struct sending **stopped)
+static enum seal_answer take_new(struct sender *s)
 {
+    struct sending *it;
     struct runs runs = { .count = 0 };
     struct waiting_text text = { 0, NULL, NULL, 0 };
     enum seal_answer answer = SEAL_OK;
@@ -110,7 +111,7 @@ static enum seal_answer take_new(struct sender *s, struct sending **stopped)
     outbox_select_texts(&s->outbox, s->seen, INT64_MAX, LOOKED);
     while (answer == SEAL_OK && (row = outbox_next_text(&s->outbox, &text)) == 1) {
         int was_taken = is_taken;
-        answer = look_at(s, &text, stopped, &is_taken);
+        answer = look_at(s, &text, &it, &is_taken);
         if (is_taken)
             note_run(&runs, text.id, was_taken);
         last = text.id;
@@ -162,16 +163,16 @@ static struct sending *now_of(struct sending *it)
 }
 
 /* Takes texts of the sessions that have room again, in their turn. */
-static enum seal_answer take_sealable(struct sender *s, struct sending **stopped)
+static enum seal_answer take_sealable(struct sender *s)
 {
     enum seal_answer answer = SEAL_OK;
     size_t i, kept = 0, looked = 0, count = s->sealable.count;
     for (i = 0; i < count && answer == SEAL_OK && looked < LOOKED; i++) {
         struct sending *it = s->sealable.at[i];
         it->is_sealable = 0;
-        *stopped = now_of(it);
-        if (*stopped != NULL)
-            answer = take_waiting(s, stopped, &looked);
+        it = now_of(it);
+        if (it != NULL)
+            answer = take_waiting(s, &it, &looked);
     }
     for (; i < s->sealable.count; i++)
         s->sealable.at[kept++] = s->sealable.at[i];
@@ -184,10 +185,10 @@ int texts_wait(struct sender *s)
     return s->sealable.count > 0 || outbox_has_text(&s->outbox, s->seen);
 }
 
-enum seal_answer texts_take(struct sender *s, struct sending **stopped)
+enum seal_answer texts_take(struct sender *s)
 {
-    enum seal_answer answer = take_sealable(s, stopped);
-    return answer == SEAL_OK ? take_new(s, stopped) : answer;
+    enum seal_answer answer = take_sealable(s);
+    return answer == SEAL_OK ? take_new(s) : answer;
 }
 
 void texts_give_up(struct sender *s, sqlite3_int64 seen)

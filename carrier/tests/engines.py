@@ -50,14 +50,6 @@ def with_children(process):
         return [process, *map(int, file.read().split())]
 
 
-def listen():
-    """A socket that listens at a port of the loopback."""
-    server = socket.socket()
-    server.bind(("127.0.0.1", 0))
-    server.listen()
-    return server
-
-
 def connect(port):
     return socket.create_connection(("127.0.0.1", port), PATIENCE)
 

@@ -73,14 +73,22 @@ class Connection:
         return json.loads(answer)
 
 
-def request(port, subject, host="127.0.0.1", **body):
+def request(port, subject, host="127.0.0.1", patience=PATIENCE, **body):
     """What JetStream answers to one request of its interface."""
-    connection = Connection(port, host)
+    connection = Connection(port, host, patience)
     try:
         connection.subscribe(INBOX)
         return connection.ask(f"$JS.API.{subject}", json.dumps(body).encode() if body else b"")
     finally:
         connection.close()
+
+
+def answers(port, subject, patience, **body):
+    """Whether JetStream answers a request, and by no error, within so many seconds."""
+    try:
+        return "error" not in request(port, subject, patience=patience, **body)
+    except OSError:
+        return False
 
 
 def make_stream(port, shard, **more):
@@ -120,10 +128,10 @@ def member(answer, name):
     return answer[name]
 
 
-def is_taken(port, shard, host):
+def is_taken(port, shard, host="127.0.0.1", patience=PATIENCE):
     """Whether the stream of a shard confirms a frame, of a session that nobody has."""
     try:
-        connection = Connection(port, host)
+        connection = Connection(port, host, patience)
         connection.subscribe(INBOX)
         is_confirmed = connection.ask(f"krb.{shard}.nobody", b"nobody's").get("seq", 0) > 0
         connection.close()

@@ -49,10 +49,11 @@ def has(text, event, words="", **fields):
 
 
 def is_flood(moments, burst=BURST):
-    """Whether so many lines may not have come at these moments."""
+    """Whether so many lines may not have come at these moments. Of one that is before the last the clock was set
+    back: how much later it is isn't known."""
     may, last = burst, moments[0]
     for moment in moments:
-        may = min(burst, may + moment - last) - 1
+        may = (min(burst, may + moment - last) if moment >= last else burst) - 1
         last = moment
         if may < -SLACK * len(moments) - SLACK:
             return True

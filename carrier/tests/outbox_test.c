@@ -56,23 +56,35 @@ static void put(struct outbox *outbox, const char *session, const void *text, si
     sqlite3_finalize(insert);
 }
 
-/* Seals all that waits, so many texts together, in a transaction that it begins. Answers what the last one
+/* Takes all that waits, so many texts together, in a transaction that it begins. Answers what the last one
  * did. */
-static enum seal_answer seal_waiting(struct outbox *outbox, struct sending *sending, unsigned together)
+static enum seal_answer take_waiting(struct sealing *sealing, struct outbox *outbox, struct sending *sending,
+                                     unsigned together)
 {
-    struct sealing sealing = { .outbox = outbox, .batch = together, .frame = frame };
     struct waiting_text text;
     enum seal_answer answer = SEAL_OK;
+    check(seal_begin(sealing, outbox, together) == 0, "there is memory");
     check(outbox_begin(outbox) == OUTBOX_OK, "a transaction begins");
     outbox_select_texts(outbox, 0, INT64_MAX, 1000);
     while (answer == SEAL_OK && outbox_next_text(outbox, &text) == 1)
-        answer = seal_text(&sealing, sending, &text);
+        answer = seal_text(sealing, sending, &text);
     outbox_end_texts(outbox);
     return answer;
 }
 
+/* The same, and seals it. */
+static enum seal_answer seal_waiting(struct outbox *outbox, struct sending *sending, unsigned together)
+{
+    struct sealing sealing;
+    enum seal_answer answer = take_waiting(&sealing, outbox, sending, together);
+    if (answer == SEAL_OK)
+        answer = seal_all(&sealing);
+    seal_end(&sealing);
+    return answer;
+}
+
 /* The same, committed if all could be sealed. */
-static enum seal_answer seal_all(struct outbox *outbox, struct sending *sending, unsigned together)
+static enum seal_answer seal_and_commit(struct outbox *outbox, struct sending *sending, unsigned together)
 {
     enum seal_answer answer = seal_waiting(outbox, sending, together);
     if (answer == SEAL_OK)
@@ -119,7 +131,7 @@ static void test_texts(struct outbox *outbox)
     for (i = 0; i < TEXTS; i++)
         put(outbox, of.name, bytes, lens[i]);
     put(outbox, of.name, NULL, 0);
-    check(seal_all(outbox, &sending, 1) == SEAL_OK, "all is sealed");
+    check(seal_and_commit(outbox, &sending, 1) == SEAL_OK, "all is sealed");
     check(krbrelay_receiver_new(&receiver, of.etype, of.key, of.key_len, &expect, 1, 0) == KRBRELAY_OK,
           "a receiver is made");
     outbox_select_frames(outbox, of.name, 0, 1000);
@@ -188,7 +200,7 @@ static void test_confounders(struct outbox *outbox)
     size_t len = 0, i, k;
     for (i = 0; i < SAME; i++)
         put(outbox, of.name, bytes, 4);
-    check(seal_all(outbox, &sending, 1) == SEAL_OK, "equal texts are sealed");
+    check(seal_and_commit(outbox, &sending, 1) == SEAL_OK, "equal texts are sealed");
     outbox_select_frames(outbox, of.name, 0, 1000);
     for (i = 0; i < SAME && outbox_next_frame(outbox, &number, &found, &len) == 1; i++) {
         memcpy(first[i], cipher_of(found, len), 16);
@@ -207,19 +219,19 @@ static void test_last_number(struct outbox *outbox)
     struct session of = session_of("last", KRBRELAY_SAFE, UINT32_MAX - 1);
     struct sending sending = sending_of(of);
     put(outbox, of.name, bytes, 1);
-    check(seal_all(outbox, &sending, 1) == SEAL_OK, "the number before the last is a text's");
+    check(seal_and_commit(outbox, &sending, 1) == SEAL_OK, "the number before the last is a text's");
     check(sqlite3_exec(outbox->db, "DELETE FROM text; DELETE FROM sealed", NULL, NULL, NULL) == SQLITE_OK, "it is taken");
     put(outbox, of.name, bytes, 1);
-    check(seal_all(outbox, &sending, 1) == SEAL_STOP, "no text has the last number");
+    check(seal_and_commit(outbox, &sending, 1) == SEAL_STOP, "no text has the last number");
     seal_reset(&sending, &of_none);
     sending.sealed = UINT32_MAX;
     put(outbox, of.name, bytes, 1);
-    check(seal_all(outbox, &sending, 2) == SEAL_STOP, "nor has a batch");
+    check(seal_and_commit(outbox, &sending, 2) == SEAL_STOP, "nor has a batch");
     seal_reset(&sending, &of_none);
     sending.sealed = UINT32_MAX;
     check(sqlite3_exec(outbox->db, "DELETE FROM text; DELETE FROM sealed", NULL, NULL, NULL) == SQLITE_OK, "it is dropped");
     put(outbox, of.name, NULL, 0);
-    check(seal_all(outbox, &sending, 1) == SEAL_OK && sending.sealed == UINT64_C(1) << 32, "the close has it");
+    check(seal_and_commit(outbox, &sending, 1) == SEAL_OK && sending.sealed == UINT64_C(1) << 32, "the close has it");
     seal_free(&sending);
 }
 
@@ -237,7 +249,7 @@ static void test_taken_back(struct outbox *outbox)
     check(seal_waiting(outbox, &sending, 1) == SEAL_OK && sending.sealed == 8, "a text is sealed");
     outbox_rollback(outbox);
     seal_reset(&sending, &of_none);
-    check(seal_all(outbox, &sending, 1) == SEAL_OK && sending.sealed == 8, "it is sealed again");
+    check(seal_and_commit(outbox, &sending, 1) == SEAL_OK && sending.sealed == 8, "it is sealed again");
     check(krbrelay_receiver_new(&receiver, of.etype, of.key, of.key_len, &expect, 7, 0) == KRBRELAY_OK,
           "a receiver is made");
     outbox_select_frames(outbox, of.name, 0, 1000);
@@ -260,7 +272,7 @@ static void test_noted(struct outbox *outbox)
     for (i = 0; i < 3; i++)
         put(outbox, of.name, bytes, 5);
     put(outbox, of.name, NULL, 0);
-    check(seal_all(outbox, &sending, 3) == SEAL_OK, "a batch and the close are sealed");
+    check(seal_and_commit(outbox, &sending, 3) == SEAL_OK, "a batch and the close are sealed");
     check(sqlite3_prepare_v2(outbox->db, "SELECT number, part FROM sealed WHERE session = 'noted' ORDER BY text",
                              -1, &select, NULL) == SQLITE_OK, "what is noted is asked for");
     for (i = 0; i < 4; i++)
@@ -276,6 +288,7 @@ static void test_nothing_left(struct outbox *outbox)
 {
     struct session of = session_of("left", KRBRELAY_PRIV, 0);
     struct sending sending = sending_of(of);
+    struct sealing sealing;
     check_is_seen(secret);
     put(outbox, of.name, secret, sizeof secret - 1);
     check(seal_waiting(outbox, &sending, 2) == SEAL_OK && sending.texts == 1, "a text waits for another one");
@@ -283,6 +296,13 @@ static void test_nothing_left(struct outbox *outbox)
     look_for(secret);
     seal_free(&sending);
     check(found_left() == 0, "a sender that ends leaves it nowhere");
+    sending = sending_of(of);
+    check(take_waiting(&sealing, outbox, &sending, 1) == SEAL_OK && sealing.count == 1, "a record waits to be sealed");
+    outbox_rollback(outbox);
+    look_for(secret);
+    seal_end(&sealing);
+    seal_free(&sending);
+    check(found_left() == 0, "nor does one that ends before it is sealed");
 }
 
 static uint64_t next_of(struct outbox *outbox, const struct session *of)
@@ -381,7 +401,8 @@ static void test_done(struct outbox *outbox)
           && outbox_add_frame(outbox, of.name, 1, bytes, 3, &unknown) == 0
           && outbox_add_frame(outbox, of.name, 2, bytes, 3, &unknown) == 0
           && outbox_add_frame(outbox, of.name, 4, bytes, 3, &unknown) == 0
-          && outbox_add_frame(outbox, of.name, 5, bytes, 3, &beside) == 0, "frames are stored");
+          && outbox_add_frame(outbox, of.name, 5, bytes, 3, &beside) == 0 && outbox_insert(outbox) == 0,
+          "frames are stored");
     check(outbox_load(outbox, &of, &it) == 0, "the outbox tells how far a session is");
     it.carried = it.done = 2;
     check(outbox_set_carried(outbox, of.name, &it) == 0 && outbox_drop_done(outbox, of.name, it.done) == 0,

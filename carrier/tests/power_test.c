@@ -65,16 +65,19 @@ static void put_text(struct outbox *outbox, uint64_t number)
 }
 
 /* Its frame may leave as soon as this is written to the pipe. */
-static uint64_t seal_one(struct outbox *outbox, struct sending *sending, uint8_t *frame)
+static uint64_t seal_one(struct outbox *outbox, struct sending *sending)
 {
-    struct sealing sealing = { .outbox = outbox, .batch = 1, .frame = frame };
+    struct sealing sealing;
     struct waiting_text text;
     const uint8_t *found = NULL;
     uint64_t number = 0;
     size_t len = 0;
+    check(seal_begin(&sealing, outbox, 1) == 0, "there is memory");
     check(outbox_begin(outbox) == OUTBOX_OK, "a transaction begins");
     outbox_select_texts(outbox, 0, INT64_MAX, 1);
-    check(outbox_next_text(outbox, &text) == 1 && seal_text(&sealing, sending, &text) == SEAL_OK, "a text is sealed");
+    check(outbox_next_text(outbox, &text) == 1 && seal_text(&sealing, sending, &text) == SEAL_OK
+          && seal_all(&sealing) == SEAL_OK, "a text is sealed");
+    seal_end(&sealing);
     check(outbox_drop_texts(outbox, text.id, text.id) == 0, "and taken");
     outbox_end_texts(outbox);
     check(outbox_set_next(outbox, &sending->of, sending->sealed - 1, sending->sealed) == 0
@@ -111,7 +114,6 @@ static void carry_one(struct carrier *carrier, uint64_t number)
 /* Opens all, does a half of all, and closes it. */
 static void work(uint64_t first, uint64_t end)
 {
-    static uint8_t frame[KRBRELAY_FRAME_LIMIT];
     struct sending sending = { .of = session_of(), .sealed = first };
     const struct carrier_options options = { .where = carrier_path };
     struct outbox outbox = { 0 };
@@ -123,7 +125,7 @@ static void work(uint64_t first, uint64_t end)
     check(krbrelay_sending_load(&sending.end, first, first, 0, first, 0, 0) == KRBRELAY_OK, "its end begins");
     for (number = first; number < end; number++) {
         put_text(&outbox, number);
-        check(seal_one(&outbox, &sending, frame) == number, "each has the next number");
+        check(seal_one(&outbox, &sending) == number, "each has the next number");
         carry_one(carrier, number);
         take_one(store, number);
     }

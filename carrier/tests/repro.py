@@ -905,6 +905,26 @@ def clock_back(place):
         it.close()
 
 
+def clock_back_away(place):
+    """The clocks of both ends are set back by an hour while the broker is away: they go on once it is there."""
+    place.step_clocks(0)
+    place.put(texts("ann", 0, 20))
+    for name in ("sender", "receiver"):
+        place.start(name)
+    place.require(place.wait(lambda: place.is_delivered({"ann": 20}), 8), "nothing is delivered")
+    place.nats.kill(0)
+    time.sleep(2)
+    place.step_clocks(-HOUR)
+    place.put(texts("ann", 20, 40))
+    time.sleep(2)
+    place.nats.start(0)
+    engines.await_port(place.nats.ports[0])
+    began = time.monotonic()
+    place.await_delivered()
+    place.told = f"; delivered {time.monotonic() - began:.1f} s after the broker was there"
+    place.require(place.wait(lambda: place.count("outbox", "frame") == 0, 8), "no receipt comes after a step back")
+
+
 # ---- numbers
 
 def put_around_a_backup(place):
@@ -1141,51 +1161,25 @@ def forged_confirmation(place):
                   f"{place.count('outbox', 'frame')} frames stay in the outbox")
 
 
-class Forward:
-    """Passes a port's bytes on, and may hold them all."""
-
-    def __init__(self, port):
-        self.to, self.held, self.ends = port, False, []
-        self.server = engines.listen()
-        self.port = self.server.getsockname()[1]
-        threading.Thread(target=self.accept, daemon=True).start()
-
-    def accept(self):
-        while True:
-            one = self.server.accept()[0]
-            other = engines.connect(self.to)
-            self.ends += [one, other]
-            for pair in ((one, other), (other, one)):
-                threading.Thread(target=self.pass_on, args=pair, daemon=True).start()
-
-    def pass_on(self, source, target):
-        try:
-            while data := source.recv(65536):
-                while self.held:
-                    time.sleep(0.02)
-                target.sendall(data)
-        except OSError:
-            pass
-        finally:
-            target.close()
-
-
 def zombie_sender(place):
     """A sender that is cut off isn't the owner any more."""
     place.put(texts("ann", 0, 5))
     place.run("sender", "--drain")
-    forward = Forward(place.nats.ports[0])
-    first = place.start("sender", carrier=f"nats://127.0.0.1:{forward.port}")
-    time.sleep(1)
-    forward.held = True
-    place.put(texts("ann", 5, 55))
-    time.sleep(0.5)
-    status, _ = place.run("sender", "--drain")
-    place.require(status == 0, f"second sender: status {status}")
-    place.start("receiver")
-    place.await_delivered()
-    ended = place.wait(lambda: first.poll() is not None, 5)
-    place.require(ended and first.returncode == 3, f"the first sender: {first.poll()}")
+    way = Way(place.nats.ports[0])
+    try:
+        first = place.start("sender", carrier=f"nats://127.0.0.1:{way.port}")
+        time.sleep(1)
+        way.is_held = True
+        place.put(texts("ann", 5, 55))
+        time.sleep(0.5)
+        status, _ = place.run("sender", "--drain")
+        place.require(status == 0, f"second sender: status {status}")
+        place.start("receiver")
+        place.await_delivered()
+        ended = place.wait(lambda: first.poll() is not None, 5)
+        place.require(ended and first.returncode == 3, f"the first sender: {first.poll()}")
+    finally:
+        way.stop()
 
 
 # ---- words of the command line and the file of sessions
@@ -1497,6 +1491,8 @@ CASES = (
          dict.fromkeys((f"t{it}" for it in range(8)), 15), 90, EIGHT, shards="auto", nats=""),
     Case(clock_back, "the clocks of both ends are set back by an hour", {"ann": 40}, 30, (ANN,),
          nats=""),
+    Case(clock_back_away, "the clocks of both ends are set back by an hour while the broker is away", {"ann": 40}, 30,
+         (ANN,), nats=""),
     Case(shared_until_closed, "receivers that share shards, until all is closed",
          {f"t{it}": 5 for it in range(8)}, 20, EIGHT, "auto"),
     Case(restore_outbox, "the outbox is restored from a backup that is 100 texts old",

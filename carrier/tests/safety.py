@@ -452,7 +452,8 @@ def start_three_nodes(place):
 
 def receipts_node_away(place):
     """The stream of receipts has as many replicas as its receiver said, which is one: a sender and a receiver
-    that want three tell so. Its node is away, and 40 sessions wait for receipts: another session goes on."""
+    that want three tell so. Its node is away, and 40 sessions wait for receipts: another session goes on, each of
+    its texts at once."""
     start_three_nodes(place)
     wanted, waiting = {"replicas": "3"}, [f"w{it}" for it in range(MANY)]
     place.put(texts("w0", 0, 1) + texts("ann", 0, 1), given=wanted)
@@ -462,22 +463,37 @@ def receipts_node_away(place):
     time.sleep(1)
     place.end(receiver)
     leader = jetstream.request(place.nats.ports[0], "STREAM.INFO.KRB_RECEIPTS")["cluster"]["leader"]
+    away = int(leader.removeprefix("n"))
     place.put(texts("w0", 1, 2) + [row for name in waiting[1:] for row in texts(name, 0, 2)])
     running = place.start("sender", **wanted), place.start("receiver", **wanted)
     told = place.wait(lambda: all("receipts_unfit" in place.log(it) for it in running), 20)
     place.require(told, "not both say that the stream of receipts has one replica")
     place.require(place.wait(lambda: place.is_delivered(dict.fromkeys(waiting, 2))
                              and place.count("outbox", "frame") == 0, 20), "no receipts came")
+    before = max(time_until_delivered(place, "ann", it) for it in range(1, 61))
     place.end(running[1])
-    place.nats.kill(int(leader.removeprefix("n")))
+    place.nats.kill(away)
+    server = time_of_the_server(place, place.nats.ports[away - 1])
     place.put([row for name in waiting for row in texts(name, 2, 3)])
-    time.sleep(3)
     place.start("receiver", sessions=place.other([ANN]))
-    took = [time_until_delivered(place, "ann", it) for it in range(1, 121)]
+    first = time_until_delivered(place, "ann", 61)
+    took = [time_until_delivered(place, "ann", it) for it in range(62, 181)]
     place.require(place.wait(lambda: place.is_delivered(place.case.wanted), 5), "another session stands")
-    place.told = f"; a text after {sorted(took)[len(took) // 2]:.3f} s (median), {max(took):.3f} s at most"
-    late = [it for it in took[10:] if it > SOON]     # the first ones may come before the stream has a leader
-    place.require(len(late) <= 2, f"late: {late}")
+    place.told = (f"; the nodes by themselves {server:.1f} s, a receiver that begins then {first:.3f} s, each text after"
+                  f" that {sorted(took)[len(took) // 2]:.3f} s (median), {max(took):.3f} s at most, {before:.3f} s before")
+    late = [it for it in took if it > max(SOON, 2 * before)]    # a busy machine is late by itself
+    place.require(not late, f"late: {late}")
+
+
+def time_of_the_server(place, port):
+    """How long it takes until the other nodes take a frame and make a consumer again, whoever asks: seconds."""
+    began = time.monotonic()
+    consumer = {"stream_name": "KRB_0", "config": {"deliver_subject": "nobody.here", "ack_policy": "none",
+                                                   "num_replicas": 1, "mem_storage": True}}
+    taken = place.wait(lambda: jetstream.is_taken(port, 0, patience=0.3), 20)
+    made = place.wait(lambda: jetstream.answers(port, "CONSUMER.CREATE.KRB_0", 0.3, **consumer), 20)
+    place.require(taken and made, "two nodes of three take no frame, or make no consumer")
+    return time.monotonic() - began
 
 
 def time_until_delivered(place, name, number):
@@ -656,7 +672,7 @@ CASES = (
     Case(backlog_of_shards, "32 shards with a backlog of 1,000 texts each", {}, 60, shard_lines(), nats=""),
     Case(node_stopped_with_backlogs, "a node stands for 12 s, and 32 shards have texts", {}, 90, shard_lines(),
          nats=""),
-    Case(receipts_node_away, "the stream of receipts has one replica, whose node is away", {"ann": 121}, 90,
+    Case(receipts_node_away, "the stream of receipts has one replica, whose node is away", {"ann": 181}, 90,
          (ANN, *many_lines()), "0,1"),
     Case(credentials_refused, "a node refuses the password for some seconds", {"ann": 2}, 60, (ANN,),
          nats='authorization { user: "krb", password: "one" }\n'),

@@ -112,10 +112,10 @@ static void publish_texts(struct carrier *carrier, uint32_t number, size_t count
     static const uint8_t confounder[16] = { 0 };
     const struct krbrelay_session session = { .mode = KRBRELAY_SAFE, .first = number,
                                               .sender = { 2, 4, { 10, 0, 0, 1 } } };
-    struct krbrelay_sealer sealer = { NULL };
+    struct krbrelay_sealer sealer = KRBRELAY_INIT;
     struct krbrelay_moment now;
     uint8_t batch[64], frame[256];
-    size_t size = 0, len, i;
+    size_t size = 0, len = 0, i;
     for (i = 0; i < count; i++)
         check(krbrelay_batch_add(batch, sizeof batch, &size, (const uint8_t *)texts[i], strlen(texts[i]))
               == KRBRELAY_OK, "a batch has room for its texts");
