@@ -96,8 +96,9 @@ static enum krbrelay_answer make_sealer(struct sending *it)
     const uint64_t number = it->sealed - it->waiting;
     struct krbrelay_session session = { .mode = of->mode, .first = (uint32_t)number, .sender = of->from };
     uint64_t next = number;
-    enum krbrelay_answer answer = it->sealer.at != NULL ? krbrelay_sealer_next(&it->sealer, &next)
-        : krbrelay_sealer_new(&it->sealer, of->etype, of->key, of->key_len, &session);
+    enum krbrelay_answer answer = krbrelay_sealer_next(&it->sealer, &next);
+    if (answer == KRBRELAY_EMPTY)
+        answer = krbrelay_sealer_new(&it->sealer, of->etype, of->key, of->key_len, &session);
     return answer == KRBRELAY_OK && next != number ? KRBRELAY_ARGUMENT : answer; /* never: both count each record */
 }
 

@@ -22,28 +22,36 @@ static uint64_t lap(struct shard *s)
 
 /* ---- A frame that is refused */
 
-/* The opener of a session, made when it is first needed. */
+/* The opener of a session, which demands nothing but its mode. */
 static enum krbrelay_answer make_opener(struct receiving *of)
 {
     const struct session *session = &of->of;
     const struct krbrelay_expect expect = { .mode = session->mode };
-    if (of->opener.at != NULL)
-        return KRBRELAY_OK;
     return krbrelay_opener_new(&of->opener, session->etype, session->key, session->key_len, &expect);
 }
 
-/* Opens the frame at any number, time and addresses: 1 and its number, 0 if it is refused or tells no
- * number, -1 after a fault, such as out of memory: then nothing is known of it. */
-static int look(struct shard *s, struct receiving *of, const struct carried *it, uint64_t *number)
+static enum krbrelay_answer open_any(struct shard *s, struct receiving *of, const struct carried *it,
+                                     struct krbrelay_carried *carried)
 {
     const struct krbrelay_demand any = { 0 };
-    struct krbrelay_moment now = read_clock();
-    struct krbrelay_carried carried;
-    enum krbrelay_answer answer = make_opener(of);
+    const struct krbrelay_moment now = read_clock();
     size_t size;
-    if (answer == KRBRELAY_OK)
-        answer = krbrelay_opener_open(&of->opener, it->frame, it->len, &any, &now, s->bytes,
-                                      KRBRELAY_FRAME_LIMIT, &size, &carried);
+    return krbrelay_opener_open(&of->opener, it->frame, it->len, &any, &now, s->bytes, KRBRELAY_FRAME_LIMIT, &size,
+                                carried);
+}
+
+/* Opens the frame at any number, time and addresses: 1 and its number, 0 if it is refused or tells no
+ * number, -1 after a fault, such as out of memory: then nothing is known of it. The session's opener is made
+ * when it is first needed. */
+static int look(struct shard *s, struct receiving *of, const struct carried *it, uint64_t *number)
+{
+    struct krbrelay_carried carried;
+    enum krbrelay_answer answer = open_any(s, of, it, &carried);
+    if (answer == KRBRELAY_EMPTY) {
+        answer = make_opener(of);
+        if (answer == KRBRELAY_OK)
+            answer = open_any(s, of, it, &carried);
+    }
     if (krbrelay_is_refusal(answer))
         return 0;
     if (answer != KRBRELAY_OK) {

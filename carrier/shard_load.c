@@ -1,3 +1,4 @@
+/* Which sessions a shard has, and what the store has of them (shard.h). */
 #include "clock.h"
 #include "kept.h"
 #include "log.h"

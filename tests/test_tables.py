@@ -496,7 +496,7 @@ def of_keys():
 # What a file begins with that says what it is, by its ending. A file of C leaves it to the header of its name.
 BEGINS = {"c": r"/\*", "h": r"/\*|//", "rs": "//!", "go": r"//(?!go:)|//go:build .*\n\npackage \w+\n\n//", "rattle": "//!",
           "rt": "//!", "py": r'(?:#!.*\n)?"""'}
-UNSAID = re.compile(r"/out/|/target/|/__init__\.py$|^carrier/shard_load\.c|^crates/krb_(?:der|tlv)/")
+UNSAID = re.compile(r"/out/|/target/|/__init__\.py$")
 
 
 def of_first_lines():
