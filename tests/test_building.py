@@ -1,7 +1,7 @@
 """Tests how programs and the C library are proved and built: the order of proofs, and that no tool
 takes what isn't proved from the present sources for what is; the goals of mutants; and the table of
 tools. The tools run in a copy of the repository, in which scripts take the place of the kit
-(tests/copied.py)."""
+(tests/kit/copied.py)."""
 import os
 import shutil
 import signal

@@ -1,6 +1,6 @@
 """Tests how tools/test runs its parts: in which order, how many at once, what it prints of one that
 fails, and that none is left when it ends. It runs in a copy of the repository, in which scripts take
-the place of the kit (tests/copied.py) and of each tool that is a part."""
+the place of the kit (tests/kit/copied.py) and of each tool that is a part."""
 import os
 import re
 import signal

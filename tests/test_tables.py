@@ -38,7 +38,7 @@ CALLS, PACKAGE = "crates/krb_c/src/message_calls.rt", "python/tests/test_library
 PLACES = [
     ("README.md", r"^\*\*Version\*\*: (\S+),", "whole"),
     ("crates/krb_program/src/command.rt", r'\.version\("(.*)"\)', "whole"),
-    ("tests/copied.py", r"echo krbrelay (\S+)", "whole"),
+    ("tests/kit/copied.py", r"echo krbrelay (\S+)", "whole"),
     (CALLS, r"^/// The version of the library: (\w+) is ", "packed"),
     (CALLS, r"^/// The version of the library: \w+ is (.*)\.$", "whole"),
     (CALLS, r"^const VERSION: u32 = (\w+);$", "packed"),
