@@ -494,11 +494,23 @@ def test_reports():
             and tool.told_of(mutant, None) == "it isn't refused"), "what counts as refused"
 
 
+CYCLE_OF_TWO = """\
+#[cycle(halves)]
+fn a() { b() }
+
+fn c() { }
+"""
+
+
 def test_functions():
     """Which path of the prover's is which function, and which mutants can't be tried together."""
     at = groups.Place
     assert (at("levels", "", "level").is_at("levels::+level")
             and not at("levels", "", "leave").is_at("levels::+level")), "the folder of a function that calls itself"
+    halves = groups.place_at("src/opening.rt", CYCLE_OF_TWO, CYCLE_OF_TWO.index("{ b() }"))
+    assert halves == at("opening", "", "a", "halves") and halves.is_at("opening::+halves") \
+        and halves.is_like(at("opening", "", "b", "halves")) and not halves.is_at("opening::+thirds"), "the folder of a cycle"
+    assert groups.place_at("src/opening.rt", CYCLE_OF_TWO, CYCLE_OF_TWO.index("{ }")) == at("opening", "", "c")
     assert (at("made", "Sealer", "end").is_at("kept::Sealer::end")
             and at("made", "Sealer", "end").is_at("kept::Sealer.Sealing::end")
             and not at("made", "Sealer", "end").is_at("kept::Opener::end")

@@ -9,9 +9,8 @@ import re
 from lib.build import building
 
 
-OF_ROOMS = ("c/library", "c/dist", "c/signatures", "c/costs", "python/test", "rust/test", "go/test", "carrier/test", "kerberos/test",
-            "kerberos/interop", "conformance/test", "conformance/run", "conformance/mutate",
-            "conformance/plant")
+OF_ROOMS = ("c/library", "c/dist", "c/signatures", "c/costs", "python/test", "rust/test", "go/test", "carrier/test",
+            "kerberos/test", "kerberos/interop", *(f"conformance/{it}" for it in ("test", "run", "mutate", "plant")))
 
 
 def names():

@@ -13,7 +13,6 @@ Told = tuple[bool, str]
 WRAPS = ["-Wl,--wrap=malloc", "-Wl,--wrap=realloc", "-Wl,--wrap=free"]
 LINKED = {"calls": ["-Wl,--wrap=clock_gettime", "-Wl,--wrap=getrandom"], "residue": WRAPS[2:]}
 OF_A_TEST = 60      # seconds, as `rt ci` gives each test of a crate
-COUNT = re.compile(r"^\d+ passed, \d+ failed", re.M)
 OF_32_BITS = ["-m32", "-ffreestanding", "-nostdlib", "-static", "-fno-pic", "-no-pie", "-fno-stack-protector"]
 
 
@@ -64,10 +63,9 @@ def supported_v3(copy: Copy) -> Told:
 
 
 def counted(told: Told) -> Told:
-    """What a tool found that counts. One that ended before its count, as at its own time limit on a busy machine,
-    says nothing of a fault."""
+    """What a tool that counts found. One that ended before its count, as on a busy machine, says nothing of a fault."""
     passed, said = told
-    if not passed and not COUNT.search(said):
+    if not passed and not re.search(r"(?m)^\d+ passed, \d+ failed", said):
         raise NotCompiled(f"it ended before its count: {said[-1000:]}")
     return told
 
