@@ -18,7 +18,7 @@ use Rattle.krb_peers.proofs.OrderLemmas.{demand_after-nil, demand_after-append}
 use Rattle.krb_peers.proofs.ReceiveLemmas.{answer_is}
 use Rattle.krb_peers.proofs.VerdictLemmas.{verdicts-push}
 use Rattle.krb_relay.specs.declared.waiting.Waiting.{Waiting}
-use Rattle.krb_relay.specs.Opening.{HasJudged, JudgesNext, Opens, OpensBelow, OpensEach}
+use Rattle.krb_relay.specs.Opening.{AreReady, HasJudged, HasMoment, IsReady, JudgesNext, Opens, OpensBelow, OpensEach}
 
 -- ---- frames of one lane
 
@@ -89,8 +89,43 @@ side k zero = inr (omega arith)
 side zero (suc n) = inl (omega arith)
 side (suc k) (suc n) = elim (side k n) [ inl h ↦ inl (omega (arith, h)) | inr h ↦ inr (omega (arith, h)) ]
 
--- what is opened of two halves of the lanes is opened of all
+-- both halves of the lanes can be opened
 module _ (front back all : List Receiving) (first rest both : List Waiting) (cut : all ≡ front ++ back) (split : both ≡ first ++ rest) (even : length front ≡ length first) where
+  pub first_ready : AreReady all both → AreReady front first
+  first_ready h = record {
+    same = even;
+    moments = λ lane r lt.
+        let at : get_or all lane r ≡ get_or front lane r = ap (λ l. get_or l lane r) cut ∙ get_or_append_left front back r lane lt in
+        let n = ap length cut ∙ length-append front back in
+        subst HasMoment at (h.moments lane r (omega (arith, n, lt)));
+    ready = λ lane w lt.
+        let at : get_or both lane w ≡ get_or first lane w = ap (λ l. get_or l lane w) split ∙ get_or_append_left first rest w lane lt in
+        let n = ap length split ∙ length-append first rest in
+        subst IsReady at (h.ready lane w (omega (arith, n, lt)));
+  }
+
+  pub rest_ready : AreReady all both → AreReady back rest
+  rest_ready h =
+      let n = ap length cut ∙ length-append front back in
+      let m = ap length split ∙ length-append first rest in
+      let s = h.same in
+      record {
+        same = omega (arith, n, m, s, even);
+        moments = λ lane r lt.
+            let k : ℕ = length front + lane in
+            let down : k - length front ≡ lane = omega arith in
+            let at : get_or all k r ≡ get_or back lane r =
+            ap (λ l. get_or l k r) cut ∙ (get_or-append_right front back (length front) k r refl (omega arith) ∙ ap (λ i. get_or back i r) down) in
+            subst HasMoment at (h.moments k r (omega (arith, n, lt)));
+        ready = λ lane w lt.
+            let k : ℕ = length first + lane in
+            let down : k - length first ≡ lane = omega arith in
+            let at : get_or both k w ≡ get_or rest lane w =
+            ap (λ l. get_or l k w) split ∙ (get_or-append_right first rest (length first) k w refl (omega arith) ∙ ap (λ i. get_or rest i w) down) in
+            subst IsReady at (h.ready k w (omega (arith, m, lt)));
+      }
+
+  -- and what is opened of each half is opened of all
   pub both_open : (front-now back-now : List Receiving) (first-now rest-now : List Waiting) → OpensEach front first front-now first-now → OpensEach back rest back-now rest-now
       → OpensEach all both (front-now ++ back-now) (first-now ++ rest-now)
   both_open front-now back-now first-now rest-now f b =

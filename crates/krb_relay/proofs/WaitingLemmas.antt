@@ -1,9 +1,9 @@
 -- What came through the lanes in some rounds: taken, opened and logged.
-use Rattle.std.proofs.Common.{◌≡◌, ◌≢◌, ◌⊎◌, ℕ, suc, ◌+◌, ◌-◌, ◌<◌, ◌≤◌, Bool, true, false, List, [], ◌∷◌, ◌++◌, length, map, take, set, get_or, Ok, Err, inl, inr, refl, sym, ap, ap₂, subst, ◌∙◌, arith, append-nil, append_assoc}
+use Rattle.std.proofs.Common.{◌≡◌, ◌≢◌, ◌⊎◌, ℕ, zero, suc, ◌+◌, ◌-◌, ◌<◌, ◌≤◌, Bool, true, false, List, [], ◌∷◌, ◌++◌, length, map, take, drop, set, get_or, Ok, Err, inl, inr, refl, sym, ap, ap₂, subst, ◌∙◌, arith, append-nil, append_assoc}
 use Rattle.std.specs.Prelude.{All}
 use Rattle.std.specs.List.{AllZip}
 use Rattle.std.proofs.Math.Seq.{take-nil}
-use Rattle.std.proofs.lemmas.List.{length-append, length-map, length-set, get_or_append_left, get_or-append_right, get_or-map, get_or-set_same, get_or-set_other, same_lists}
+use Rattle.std.proofs.lemmas.List.{length-append, length-map, length-set, get_or_append_left, get_or-append_right, get_or-map, take_all, get_or-set_same, get_or-set_other, same_lists}
 use Rattle.std.proofs.lemmas.List.Elements.{All-nil, All-cons, All-append}
 use Rattle.std.proofs.lemmas.Bool.Decides.{eqb_tells}
 use Rattle.krb_lane.specs.Side.{Side, LaneId}
@@ -25,15 +25,89 @@ use Rattle.krb_peers.proofs.ReceiveLemmas.{verdict_is}
 use Rattle.krb_relay.specs.declared.waiting.Last.{Last}
 use Rattle.krb_relay.specs.declared.waiting.Last.TheVariants as last
 use Rattle.krb_relay.specs.declared.waiting.Waiting.{Waiting}
-use Rattle.krb_relay.specs.Gathering.{lane_of}
+use Rattle.krb_relay.specs.Gathering.{IsEnded, lane_of}
 use Rattle.krb_relay.specs.Opening.{HasJudged, OpensEach, AreReady}
 use Rattle.krb_relay.specs.Serving.{post, Stands, Stops, Drains, Turns, passed, closed}
-use Rattle.krb_relay.specs.Waiting.{Follows, HasTaken, HaveTaken, TakesMore, AreTaken, IsJudged, AreWaiting, Waits, IsEmpty, IsUnjudged, MayBeLogged, LogsFrame, LogsLast, LogsItem}
+use Rattle.krb_relay.specs.Waiting.{Follows, HasTaken, HaveTaken, IsJudged, AreWaiting, Waits, CanLog, IsEmpty, IsUnjudged, MayBeLogged, LogsFrame, LogsLast, LogsItem}
 use Rattle.krb_relay.proofs.EndsLemmas.{all_drains_self, all_drains_more}
 use Rattle.krb_relay.proofs.OpeningLemmas.{side, within_default}
 use Rattle.krb_relay.proofs.StandsLemmas.{all_answered, all_logged, notes_taken, lanes_are, lane_below, lane_small, moments_of, next_round, shut_here, turned}
 
 -- ---- what was taken
+
+module _ (mid rx : Side) (w v : Waiting) (now : Side) (h : HasTaken mid rx w) where
+  -- a frame more
+  pub taken_frame : (frame : List ℕ) → rx.ended ≡ false → now ≡ record rx { frames = rx.frames ++ frame ∷ [] }
+      → v.came ≡ length now.frames → v.frames.items ≡ w.frames.items ++ frame ∷ [] → v.last ≡ w.last → HasTaken mid now v
+  taken_frame frame live is came frames last_is = record {
+    came = came;
+    same = ap (λ (x : Side). x.lane) is ∙ h.same;
+    capacity = ap (λ (x : Side). x.capacity) is ∙ h.capacity;
+    frames =
+        ap (λ (x : Side). x.frames) is
+        ∙ (ap (λ l. l ++ frame ∷ []) h.frames
+        ∙ (append_assoc mid.frames w.frames.items (frame ∷ []) ∙ ap (λ l. mid.frames ++ l) (sym frames)));
+    follows = follow w.last v.last last_is h.follows;
+  }
+    where
+      still : now.ended ≡ false
+      still = ap (λ (x : Side). x.ended) is ∙ live
+
+      follow : (before after : Last) → after ≡ before → Follows before mid rx w.frames.items → Follows after mid now v.frames.items
+      follow last.Nothing after at f = absurd (let g = f.1 in let e : true ≡ false = sym g ∙ live in cc)
+      follow last.End after at f = absurd (let g = f.1 in let e : true ≡ false = sym g ∙ live in cc)
+      follow (last.More cause) after at f =
+          let P : Last → Type 0 = λ l. Follows l mid now v.frames.items in
+          let there : P (last.More cause) = (f.0, still) in
+          subst P (sym at) there
+
+  -- the End
+  pub taken_end : rx.ended ≡ false → now ≡ record rx { ended = true } → v.came ≡ w.came → v.frames.items ≡ w.frames.items → v.last ≡ last.End → HasTaken mid now v
+  taken_end live is came frames last_is =
+      let same : now.frames ≡ rx.frames = ap (λ (x : Side). x.frames) is in
+      let P : Last → Type 0 = λ l. Follows l mid now v.frames.items in
+      let there : P last.End = (before w.last h.follows, ap (λ (x : Side). x.ended) is) in
+      record {
+        came = came ∙ (h.came ∙ ap length (sym same));
+        same = ap (λ (x : Side). x.lane) is ∙ h.same;
+        capacity = ap (λ (x : Side). x.capacity) is ∙ h.capacity;
+        frames = same ∙ (h.frames ∙ ap (λ l. mid.frames ++ l) (sym frames));
+        follows = subst P (sym last_is) there;
+      }
+    where
+      before : (l : Last) → Follows l mid rx w.frames.items → mid.ended ≡ false
+      before last.Nothing f = absurd (let g = f.1 in let e : true ≡ false = sym g ∙ live in cc)
+      before last.End f = f.0
+      before (last.More cause) f = f.0
+
+  -- nothing, whatever the reason
+  pub taken_none : (cause : _) → rx.ended ≡ false → now ≡ rx → v.came ≡ w.came → v.frames.items ≡ w.frames.items → v.last ≡ last.More cause → HasTaken mid now v
+  taken_none cause live is came frames last_is =
+      let same : now.frames ≡ rx.frames = ap (λ (x : Side). x.frames) is in
+      let P : Last → Type 0 = λ l. Follows l mid now v.frames.items in
+      let there : P (last.More cause) = (before w.last h.follows, ap (λ (x : Side). x.ended) is ∙ live) in
+      record {
+        came = came ∙ (h.came ∙ ap length (sym same));
+        same = ap (λ (x : Side). x.lane) is ∙ h.same;
+        capacity = ap (λ (x : Side). x.capacity) is ∙ h.capacity;
+        frames = same ∙ (h.frames ∙ ap (λ l. mid.frames ++ l) (sym frames));
+        follows = subst P (sym last_is) there;
+      }
+    where
+      before : (l : Last) → Follows l mid rx w.frames.items → mid.ended ≡ false
+      before last.Nothing f = absurd (let g = f.1 in let e : true ≡ false = sym g ∙ live in cc)
+      before last.End f = f.0
+      before (last.More cause) f = f.0
+
+-- nothing yet
+pub taken_nothing : (rx : Side) (w : Waiting) → w.came ≡ length rx.frames → w.frames.items ≡ [] → Follows w.last rx rx [] → HasTaken rx rx w
+taken_nothing rx w came none follows = record {
+  came = came;
+  same = refl;
+  capacity = refl;
+  frames = sym (ap (λ gs. rx.frames ++ gs) none ∙ append-nil rx.frames);
+  follows = let P : List (List ℕ) → Type 0 = λ gs. Follows w.last rx rx gs in subst P (sym none) follows;
+}
 
 pub have_taken_push : (ms : List Side) (ws : List Waiting) (m : Side) (w : Waiting) → HaveTaken ms ms ws → HasTaken m m w → HaveTaken (ms ++ m ∷ []) (ms ++ m ∷ []) (ws ++ w ∷ [])
 have_taken_push ms ws m w h t =
@@ -268,6 +342,9 @@ stands_stop starts ends receivings log h = record {
 
 -- of the lanes below this one the round is logged
 module _ (lane : ℕ) (starts : List Receiving) (ends : List Side) (receivings : List Receiving) (ws : List Waiting) (log : LogState) (h : Waits lane starts ends receivings ws log) where
+  pub waits_count : length ws ≡ length starts
+  waits_count = h.waits.taken.each_lane ∙ h.stands.each_end
+
   -- the log is that of the rounds so far
   pub waits_stop : (log-now : LogState) → log-now ≡ log → Stops starts ends ends log-now
   waits_stop log-now is =
@@ -474,26 +551,18 @@ side_is m e lane-is capacity-is frames-are ended-is =
     ap A lane-is ∙ (ap B capacity-is ∙ (ap C frames-are ∙ ap D ended-is))
 
 -- nothing waits: the lanes were logged as far as they were taken
-ended_alike : (l : Last) (m e : Side) (frames : List (List ℕ)) → l ≢ last.End → Follows l m e frames → m.ended ≡ e.ended
-ended_alike last.Nothing m e frames off f = f.0 ∙ sym f.1
-ended_alike last.End m e frames off f = absurd (off refl)
-ended_alike (last.More cause) m e frames off f = f.0 ∙ sym f.1
-
-same_side : (m e : Side) (w : Waiting) → HasTaken m e w → IsEmpty w → m ≡ e
-same_side m e w t none-is =
-    let frames : m.frames ≡ e.frames = sym (t.frames ∙ (ap (λ gs. m.frames ++ gs) none-is.no_frame ∙ append-nil m.frames)) in
-    let ended : m.ended ≡ e.ended = ended_alike w.last m e w.frames.items none-is.no_end t.follows in
-    side_is m e (sym t.same) (sym t.capacity) frames ended
-
-same_sides : (mids ends : List Side) (ws : List Waiting) → HaveTaken mids ends ws → All IsEmpty ws → mids ≡ ends
-same_sides mids ends ws h none =
-    let n = h.each_end in
-    let m = h.each_lane in
-    same_lists mids ends (sym n) (λ k d lt.
-    let w : Waiting = some_of ws k (omega (arith, m, lt)) in
-    same_side (get_or mids k d) (get_or ends k d) (get_or ws k w) (h.each k d d w lt) (none k w (omega (arith, m, lt))))
-
 module _ (starts : List Receiving) (ends : List Side) (receivings : List Receiving) (ws : List Waiting) (log : LogState) (h : Waits 0 starts ends receivings ws log) (none : All IsEmpty ws) where
+  ended_alike : (l : Last) (m e : Side) (frames : List (List ℕ)) → l ≢ last.End → Follows l m e frames → m.ended ≡ e.ended
+  ended_alike last.Nothing m e frames off f = f.0 ∙ sym f.1
+  ended_alike last.End m e frames off f = absurd (off refl)
+  ended_alike (last.More cause) m e frames off f = f.0 ∙ sym f.1
+
+  same_side : (m e : Side) (w : Waiting) → HasTaken m e w → IsEmpty w → m ≡ e
+  same_side m e w t none-is =
+      let frames : m.frames ≡ e.frames = sym (t.frames ∙ (ap (λ gs. m.frames ++ gs) none-is.no_frame ∙ append-nil m.frames)) in
+      let ended : m.ended ≡ e.ended = ended_alike w.last m e w.frames.items none-is.no_end t.follows in
+      side_is m e (sym t.same) (sym t.capacity) frames ended
+
   same_receiving : (m : Side) (before now : Receiving) (w : Waiting) → IsJudged m before now w → IsEmpty w → before ≡ now
   same_receiving m before now w j none-is =
       let judged : w.verdicts.items ≡ [] = no_verdicts m before now w j none-is.no_frame in
@@ -504,10 +573,13 @@ module _ (starts : List Receiving) (ends : List Side) (receivings : List Receivi
 
   pub waits_over : Stands 0 starts ends receivings log
   waits_over =
+      let n = h.waits.taken.each_end in
       let m = h.waits.taken.each_lane in
       let b = h.waits.each_before in
       let r = h.waits.each_receiver in
-      let sides : h.mids ≡ ends = same_sides h.mids ends ws h.waits.taken none in
+      let sides : h.mids ≡ ends = same_lists h.mids ends (sym n) (λ k d lt.
+      let w : Waiting = some_of ws k (omega (arith, m, lt)) in
+      same_side (get_or h.mids k d) (get_or ends k d) (get_or ws k w) (h.waits.taken.each k d d w lt) (none k w (omega (arith, m, lt)))) in
       let them : h.its ≡ receivings = same_lists h.its receivings (b ∙ sym r) (λ k d lt.
       let within : k < length h.mids = omega (arith, b, lt) in
       let w : Waiting = some_of ws k (omega (arith, m, within)) in
@@ -527,54 +599,6 @@ stops_from starts before ends now log h same = record {
   same = h.same ∙ same;
   drained = h.drained;
 }
-
--- more came through the ends since
-pub stops_later : (starts : List Receiving) (before ends now : List Side) (log : LogState) → Stops starts before ends log → AllZip Drains ends now → Stops starts before now log
-stops_later starts before ends now log h more = record {
-  mid = h.mid;
-  judged = h.judged;
-  logged = h.logged;
-  lanes = h.lanes;
-  taken = h.taken;
-  same = h.same;
-  drained = all_drains_more h.mid ends now h.drained more;
-}
-
--- ---- what was taken, and isn't opened
-
-pub are_taken : (starts : List Receiving) (before ends : List Side) (receivings : List Receiving) (none ws : List Waiting) (log : LogState) → Stands 0 starts before receivings log → HaveTaken before before none
-    → TakesMore before none ends ws → AreTaken starts ends receivings ws log
-are_taken starts before ends receivings none ws log stands nothing takes = record {
-  mids = before;
-  stands = stands;
-  taken = takes.taken before nothing;
-  unjudged = takes.unjudged;
-}
-
-pub same_taken : (before ends : List Side) (none ws : List Waiting) → HaveTaken before before none → TakesMore before none ends ws → map lane_of ends ≡ map lane_of before
-same_taken before ends none ws nothing takes = same_lanes_of before ends ws (takes.taken before nothing)
-
-module _ (starts : List Receiving) (ends : List Side) (receivings : List Receiving) (ws : List Waiting) (log : LogState) (h : AreTaken starts ends receivings ws log) where
-  pub taken_ready : AreReady receivings ws
-  taken_ready = ready_of starts h.mids receivings log ends ws h.stands h.taken h.unjudged
-
-  pub taken_waits : (opened : List Receiving) (vs : List Waiting) → OpensEach receivings ws opened vs → Waits 0 starts ends opened vs log
-  taken_waits opened vs opens = record {
-    mids = h.mids;
-    its = receivings;
-    stands = h.stands;
-    waits = waiting_of h.mids receivings ends opened ws vs (h.stands.each_receiver ∙ sym h.stands.each_end) h.taken opens;
-  }
-
-  -- where nothing waits, and where the thread stops
-  pub taken_over : All IsEmpty ws → Stands 0 starts ends receivings log
-  taken_over none = let P : List Side → Type 0 = λ x. Stands 0 starts x receivings log in subst P (same_sides h.mids ends ws h.taken none) h.stands
-
-  pub taken_stop : Stops starts ends ends log
-  taken_stop =
-      stops_from starts ends h.mids ends log
-      (stops_later starts h.mids h.mids ends log (stands_stop starts h.mids receivings log h.stands) (drains_of h.mids ends ws h.taken))
-      (sym (same_lanes_of h.mids ends ws h.taken))
 
 -- ---- the lists of a round
 

@@ -39,21 +39,6 @@ pub record HaveTaken (mids ends : List Side) (waiting : List Waiting) : Type 0 w
       (lane : ℕ) (mid rx : Side) (w : Waiting) → lane < length mids
       → HasTaken (get_or mids lane mid) (get_or ends lane rx) (get_or waiting lane w)
 
--- more was taken of each lane, and none of it was opened
-pub record TakesMore (ends : List Side) (waiting : List Waiting) (now : List Side)
-    (more : List Waiting) : Type 0 where
-  pub taken : (mids : List Side) → HaveTaken mids ends waiting → HaveTaken mids now more
-  pub unjudged : All IsUnjudged more
-  pub each : length now ≡ length more
-
--- what waits of each lane was taken since the log was written, and none of it was opened
-pub record AreTaken (starts : List Receiving) (ends : List Side) (receivings : List Receiving)
-    (waiting : List Waiting) (log : LogState) : Type 0 where
-  pub mids : List Side
-  pub stands : Stands 0 starts mids receivings log
-  pub taken : HaveTaken mids ends waiting
-  pub unjudged : All IsUnjudged waiting
-
 -- what waits of a lane that was logged up to `mid` was opened since the receiver was `it`
 abbrev pub IsJudged : Side → Receiving → Receiving → Waiting → Type 0
 IsJudged mid it now w = HasJudged it (length mid.frames) w.frames.items w.verdicts.items now

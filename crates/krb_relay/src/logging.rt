@@ -33,7 +33,7 @@ pub(crate) fn log_all<R: Wait>(
 }
 
 /// Whether nothing waits of any lane.
-pub(crate) fn are_empty(waiting: &[Waiting]) -> bool
+fn are_empty(waiting: &[Waiting]) -> bool
     ensures { IsTrue result ↔ All IsEmpty waiting.now }
 {
     waiting.iter().all(|lane| lane.is_empty())

@@ -10,11 +10,8 @@ use krb_seal::Refusal;
 use std::alloc::Global;
 use std::thread::{Threads, join_mut};
 
-/// No thread is started for lanes of which fewer bytes wait.
-const WORTH_A_THREAD: usize = 24 * 1024;
-
-/// Opens what waits of each lane, in threads where it is long enough, or one lane after another if no
-/// thread can be made.
+/// Opens what waits of each lane, each in a thread of its own, or one after another if no thread can
+/// be made.
 #[cycle(halves)]
 pub(crate) fn open_lanes<R: Threads + Sync>(
     rt: &R,
@@ -34,7 +31,7 @@ pub(crate) fn open_lanes<R: Threads + Sync>(
     open_halves(rt, alloc, front, first, back, rest);
 }
 
-/// Opens what waits of two halves of the lanes, side by side if that of both is long enough.
+/// Opens what waits of two halves of the lanes side by side.
 #[cycle(halves)]
 fn open_halves<R: Threads + Sync>(
     rt: &R,
@@ -51,10 +48,6 @@ fn open_halves<R: Threads + Sync>(
     ensures front { OpensEach front.old first.old front.new first.new }
     ensures back { OpensEach back.old rest.old back.new rest.new }
 {
-    if bytes_of(first).min(bytes_of(rest)) < WORTH_A_THREAD {
-        open_lanes(rt, alloc, front, first);
-        return open_lanes(rt, alloc, back, rest);
-    }
     let mut one = ||
         requires { IsSync R.row × AreReady front.now first.now }
         ensures { OpensEach front.entry.now first.entry.now front.exit.now first.exit.now }
@@ -64,15 +57,6 @@ fn open_halves<R: Threads + Sync>(
         ensures { OpensEach back.entry.now rest.entry.now back.exit.now rest.exit.now }
     { open_lanes(rt, alloc, back, rest) };
     join_mut(rt, &mut one, &mut other);
-}
-
-/// How many bytes wait of these lanes.
-fn bytes_of(waiting: &[Waiting]) -> usize {
-    let mut bytes = 0usize;
-    for lane in waiting {
-        bytes = bytes.saturating_add(lane.bytes);
-    }
-    bytes
 }
 
 /// Opens what waits of one lane after another.

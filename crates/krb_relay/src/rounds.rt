@@ -1,7 +1,7 @@
 //! The calling thread receives in rounds: each takes one item of each lane whose End wasn't taken.
-//! Short frames are served in turn, and of longer ones several rounds are opened side by side.
+//! Where frames are long, those of a round are opened side by side.
 
-ghost use Rattle.std.specs.Prelude.{◌≡◌, ◌<◌, ◌+◌, length, map, All, IfErr, IfNone, IfSome, OnOk, OnErr};
+ghost use Rattle.std.specs.Prelude.{◌≡◌, ◌↔◌, ◌<◌, ◌+◌, length, map, All, IsTrue, IfErr, IfNone, IfSome, OnOk, OnErr};
 ghost use Rattle.std.specs.List.{AllZip};
 ghost use Rattle.krb_lane.specs.Side.{Side};
 ghost use Rattle.krb_peers.specs.Logged.{IsShut};
@@ -11,14 +11,17 @@ ghost use Rattle.krb_relay.specs.Serving.{Drains, Stands, Stops, Turns, post};
 
 use crate::cause::OwnCause;
 use crate::fault::OwnFault;
-use crate::side_by_side::rounds_side_by_side;
-use crate::taking::{LONG_ROUND, all_ended};
+use crate::side_by_side::round_side_by_side;
 use krb_lane::{Item, LaneRx, Lost};
 use krb_peers::{Log, Receiving};
 use std::alloc::Global;
 use std::snapshot::Snapshot;
 use std::sync::Wait;
 use std::thread::Threads;
+
+/// If a round had so many bytes, the frames of the next one are opened side by side. With fewer, threads
+/// would cost more than they save.
+const ENOUGH: usize = 1 << 17;
 
 /// Serves all lanes to their Ends.
 pub(crate) fn serve_all<R: Threads + Wait + Sync>(
@@ -44,13 +47,20 @@ pub(crate) fn serve_all<R: Threads + Wait + Sync>(
         if all_ended(ends) {
             return Ok(());
         }
-        bytes = if bytes < LONG_ROUND {
+        bytes = if bytes < ENOUGH {
             round(rt, alloc, starts, ends, receivings, log)?
         } else {
-            rounds_side_by_side(rt, alloc, starts, ends, receivings, log)?
+            round_side_by_side(rt, alloc, starts, ends, receivings, log)?
         };
     }
     unreachable!()
+}
+
+/// Whether the End of each lane was taken.
+fn all_ended(ends: &[LaneRx]) -> bool
+    ensures { IsTrue result ↔ All IsEnded ends.now }
+{
+    ends.iter().all(|rx| rx.ended())
 }
 
 /// One round. The result is how many bytes its frames had.

@@ -1,4 +1,4 @@
-//! What came through the lanes in some rounds, and waits for the log.
+//! What came through the lanes in a round, and waits for the log.
 
 ghost use Rattle.std.specs.Prelude.{[], All, IfOk};
 ghost use Rattle.krb_relay.specs.Waiting.{Follows, HasTaken, HaveTaken, IsUnjudged};
@@ -22,22 +22,20 @@ pub(crate) enum Last {
     More(OwnCause),
 }
 
-/// What came through a lane in some rounds, and waits for the log.
+/// What came through a lane in a round, and waits for the log.
 #[derive(Drop)]
 pub(crate) struct Waiting {
     /// How many frames have come through the lane so far.
     pub(crate) came: usize,
     /// The last of these, in order: they aren't in the log.
     pub(crate) frames: VecDeque<Bytes>,
-    /// How many bytes were taken with them.
-    pub(crate) bytes: usize,
     /// The verdicts on the first of them, and on all unless memory ran out.
     pub(crate) verdicts: VecDeque<Result<Delivery, Refusal>>,
     /// What follows them.
     pub(crate) last: Last,
 }
 
-/// That of each lane before the rounds: nothing waits.
+/// That of each lane before the round: nothing waits.
 pub(crate) fn none_waiting(alloc: Global, ends: &[LaneRx]) -> Result<Vec<Waiting>, AllocError>
     ensures taken { IfOk result (λ all. HaveTaken ends.now ends.now all.items) }
     ensures unjudged { IfOk result (λ all. All IsUnjudged all.items) }
@@ -57,7 +55,6 @@ fn nothing_of(alloc: Global, rx: &LaneRx) -> Waiting
     Waiting {
         came: rx.count() as usize,
         frames: VecDeque::new(alloc),
-        bytes: 0,
         verdicts: VecDeque::new(alloc),
         last: last_of(rx),
     }

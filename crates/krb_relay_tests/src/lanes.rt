@@ -130,8 +130,7 @@ impl Lanes {
         self.add_texts(alloc, gate, false, odd, all, 1)
     }
 
-    /// The same of these texts.
-    pub(crate) fn add_texts(
+    fn add_texts(
         &mut self,
         alloc: Global,
         gate: &Watch,
@@ -159,28 +158,9 @@ impl Lanes {
 
     /// Gives the last sender a plan: these frames.
     pub(crate) fn plan(&mut self, alloc: Global, numbers: &[usize]) -> Result<(), AllocError> {
-        self.plan_changed(alloc, numbers, numbers.len())
-    }
-
-    /// The same, where the frame at a place of the plan has its first byte changed.
-    pub(crate) fn plan_changed(
-        &mut self,
-        alloc: Global,
-        numbers: &[usize],
-        changed: usize,
-    ) -> Result<(), AllocError> {
         let mut plan = Vec::with_capacity(alloc, numbers.len())?;
-        for (place, k) in numbers.iter().enumerate() {
-            let emission = if place == changed {
-                Emit::Flip {
-                    k: *k,
-                    at: 0,
-                    mask: 1,
-                }
-            } else {
-                Emit::Frame(*k)
-            };
-            plan.push(emission).map_err(AllocError::from)?;
+        for number in numbers {
+            plan.push(Emit::Frame(*number)).map_err(AllocError::from)?;
         }
         if let Some(last) = self.sendings.last_mut() {
             last.plan = Some(plan);

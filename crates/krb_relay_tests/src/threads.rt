@@ -3,7 +3,6 @@
 //! its own lane, how far a sender seals ahead, and faults of two threads at once.
 
 mod long;
-mod rounds;
 mod sweep;
 
 use crate::asserts::{assert_log, assert_same, assert_sender};

@@ -1,6 +1,6 @@
-//! The turns of a relay in which any one allocation may fail. Each turn has its known outcome; or it runs
-//! out of memory and changes nothing, and the same turn has its known outcome when it is tried again.
-//! `tests/sweep` fails each allocation in turn, and counts the lines that report it.
+//! A relay's turns, where each allocation in turn may fail: each turn does what is known, or is out
+//! of memory with nothing changed, and then the same turn with memory does it. `tests/sweep` makes the
+//! allocations fail, and counts the lines that report it.
 
 ghost use Rattle.std.specs.Prelude.{◌≡◌, ◌<◌, length};
 ghost use Rattle.krb_core.specs.Stepped.{lane_of};
@@ -12,13 +12,13 @@ use std::io::Print;
 use std::process::Abort;
 use std::test::Fail;
 
-/// How many entries the log of a relay has, and whether the relay is done.
+/// What is seen of a relay of one lane: how many entries its log has, and whether it is done.
 fn seen(relay: &Stepped) -> (usize, bool) {
     (relay.log().entries().len(), relay.done())
 }
 
-/// Asserts that a turn has this outcome and leaves the relay in this state. If the turn runs out of memory,
-/// it has to change nothing, and is tried again. The result is whether it ran out of memory.
+/// Asserts that a turn does so and is then seen so, or wants memory, changes nothing and then does
+/// so. Answers whether it wanted memory.
 fn turns(rt: &impl Abort, relay: &mut Stepped, turn: Turn, did: Did, after: (usize, bool)) -> bool
     requires lane { lane_of turn < length relay.old.tracks }
     ensures lanes { length relay.new.tracks ≡ length relay.old.tracks }
@@ -35,7 +35,7 @@ fn turns(rt: &impl Abort, relay: &mut Stepped, turn: Turn, did: Did, after: (usi
     refused
 }
 
-/// Asserts the same, and prints a line if the turn ran out of memory.
+/// Asserts the same, and tells where it wanted memory.
 fn assert_turns(
     rt: &(impl Abort + Print),
     relay: &mut Stepped,

@@ -1,7 +1,8 @@
-//! Relays in which any one allocation may fail. `tests/sweep` fails each allocation in turn, and counts
-//! the lines that report a fault.
+//! Relays where each allocation in turn may fail. `tests/sweep` makes the allocations fail, and counts
+//! the lines that report it.
 
-use super::{PLAIN, long, rounds};
+use super::PLAIN;
+use super::long::{assert_begins, assert_rounds, lanes_of};
 use crate::asserts::assert_same;
 use crate::lanes::Lanes;
 use crate::watch::{Odd, Watch};
@@ -13,9 +14,9 @@ const REFUSES: Odd = Odd {
     wiped: false,
 };
 
-/// The sealer of the first lane refuses a call. A fault of the calling thread is reported in place of the
-/// worker's, and each lane's count is the number of records that its worker sealed. The worker of the second
-/// lane has no fault of its own, so a fault that names this lane is the calling thread's.
+/// The first lane's sealer refuses a call: a fault of the calling thread comes before the worker's, and
+/// each lane's count is that of the records that its worker sealed. The second lane has no fault of its
+/// own, so what names it is the calling thread's.
 #[test]
 fn own_fault_is_told_and_each_lane_counts_what_it_sealed(rt: HostRuntime) -> Result<(), Fail> {
     let gate = Watch::new(rt.alloc(), 0)?;
@@ -37,46 +38,21 @@ fn own_fault_is_told_and_each_lane_counts_what_it_sealed(rt: HostRuntime) -> Res
     Ok(())
 }
 
-/// The rounds of lanes of two long texts, the second of which are opened side by side.
-const ROUNDS: [(u32, u8); 6] = [
-    (0, b'a'),
-    (1, b'c'),
-    (0, b'b'),
-    (1, b'd'),
-    (0, b'.'),
-    (1, b'.'),
-];
+/// The rounds of two long texts, which are opened side by side.
+const ROUNDS: [(u32, u8); 4] = [(0, b'a'), (1, b'b'), (0, b'.'), (1, b'.')];
 
-/// If there is no memory for a thread that opens frames, the calling thread opens them. If there is none
-/// for a frame, the entries of each lane are a prefix of those in the whole relay's log.
+/// Without memory for a thread that opens, the same is done without it. Without memory for a frame, what
+/// the log has of each lane begins as in the whole relay.
 #[test]
 fn long_texts_are_logged_until_memory_is_out(rt: HostRuntime) -> Result<(), Fail> {
     let gate = Watch::new(rt.alloc(), 0)?;
-    let lanes = long::lanes_of(rt.alloc(), &gate, &[b"ab", b"cd"], 0)?;
+    let lanes = lanes_of(rt.alloc(), &gate, &[b"a", b"b"], 0)?;
     match lanes.run(&rt, rt.alloc(), 1, &gate) {
-        Ok(report) => long::assert_rounds(&rt, &report.log, &ROUNDS),
+        Ok(report) => assert_rounds(&rt, &report.log, &ROUNDS),
         Err(fault) => {
-            long::assert_begins(&rt, &fault.log, &ROUNDS);
+            assert_begins(&rt, &fault.log, &ROUNDS);
             println!(rt;
                 "refused: relay of long texts, {} at lane {}",
-                fault.cause, fault.lane
-            )?;
-        }
-    }
-    Ok(())
-}
-
-/// The same where several rounds are opened together.
-#[test]
-fn several_rounds_are_logged_until_memory_is_out(rt: HostRuntime) -> Result<(), Fail> {
-    let gate = Watch::new(rt.alloc(), 0)?;
-    let lanes = rounds::lanes_of(rt.alloc(), &gate, &rounds::SMALL, None)?;
-    match lanes.run(&rt, rt.alloc(), 8, &gate) {
-        Ok(report) => rounds::assert_rounds(&rt, &report.log, &rounds::SMALL),
-        Err(fault) => {
-            rounds::assert_begins(&rt, &fault.log, &rounds::SMALL);
-            println!(rt;
-                "refused: relay of several rounds, {} at lane {}",
                 fault.cause, fault.lane
             )?;
         }
