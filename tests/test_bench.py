@@ -6,6 +6,7 @@ import subprocess
 
 import pytest
 
+from lib import scripts
 from lib.build import building
 
 LIMIT = 120     # seconds for a run
@@ -55,3 +56,10 @@ def test_run(krb_bench, words, status, lines, told):
                           text=True, timeout=LIMIT)
     assert (done.returncode, done.stderr) == (status, told)
     assert re.fullmatch("".join(f"{line}\n" for line in lines), done.stdout)
+
+
+def test_what_only_the_crate_was_timed_with_has_no_row_of_batches():
+    bench = scripts.load("bench")
+    both, longer = ("safe", 17, 64), ("safe", 17, 1_000_000)
+    best = {(both, "made", "C"): 100.0, (both, "together", "C"): 250.0, (longer, "made", "krb_seal"): 3.0}
+    assert list(bench.table_of_batches(best))[2:] == ["| safe 17, 64 bytes | 250 | 2.50 |"]
