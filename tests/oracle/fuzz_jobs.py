@@ -12,7 +12,7 @@ MOMENTS = [5, 951_782_400_000_000, jobs.MICROS, jobs.MICROS + 999_994, LAST_MOME
 SIZES = [0, 0, 1, 2, 2, 3, 13, 14, 15, 16, 31, 100, 200, 1000]
 LONG = [[59_999], [65_535], [999_999], [1_000_000], [499_996, 499_996], [499_997, 499_996],
         [999_992, 0], [999_993, 0]]
-# Sizes of texts that are opened side by side: those of one round or a few, and those of many rounds.
+# Sizes of texts that are opened side by side, of eight senders or of one, and those of lanes of many frames.
 OF_LONG_ROUNDS = [17_000, 70_000, 140_000]
 OF_MANY_ROUNDS = [100, 1_024, 1_024, 5_000]
 ODD_VALUES = ['""', "0", "-1", "17", "1.0", "true", "[]", "[0]", '["0"]', '["00"]', "{}", "{a = 1}",
@@ -242,7 +242,7 @@ def seal_job(dice):
 
 
 def drawn_lanes(dice):
-    """The lanes of a job for `relay`. Some jobs have texts that are opened side by side."""
+    """The lanes of a job for `relay`. Some jobs have texts that are opened side by side, and some have many."""
     count, how = dice.choice([1, 1, 2, 2, 3, 8]), dice.random()
     if how < 0.03:
         return [lane(dice, 4, OF_LONG_ROUNDS, 3) for _ in range(count)]
