@@ -11,6 +11,6 @@ mod many;
 mod many_fault;
 mod unsealed;
 
-pub use many::{MOST_MESSAGES, seal_many_into};
+pub use many::{MOST_MESSAGES, peer_seal_many_into, seal_many_into};
 pub use many_fault::ManyFault;
 pub use unsealed::KrbUnsealed;

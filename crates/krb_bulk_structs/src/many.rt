@@ -5,6 +5,7 @@ ghost use Rattle.krb_seal.specs.declared.refusal.Refusal.TheVariants.{Memory};
 ghost use Rattle.krb_seal.specs.Lent.{advanced_by};
 ghost use Rattle.krb_seal.specs.Sealer.{end_of_numbers};
 ghost use Rattle.krb_bulk.specs.Many.{CanSealInTurn, SealsInTurn};
+ghost use Rattle.krb_structs.specs.Peer.{peer_sealed_many};
 ghost use Rattle.krb_bulk_structs.specs.Checks.{AllTimed};
 ghost use Rattle.krb_bulk_structs.specs.Many.{AreSealable, ManyAnswer};
 ghost use Rattle.krb_bulk_structs.specs.Unsealed.{unsealed_of};
@@ -17,7 +18,7 @@ use crate::unsealed::KrbUnsealed;
 use krb_bulk::{ManyError, Unsealed, frames_of};
 use krb_der::Moment;
 use krb_seal::Refusal;
-use krb_structs::{AnySealer, Fault};
+use krb_structs::{AnySealer, Fault, Peer};
 use std::alloc::{AllocError, Global};
 
 /// How many messages are sealed in one call at most.
@@ -80,6 +81,32 @@ fn made(
     frames
 }
 
+/// Writes the frames of messages into a buffer that has room for them, one after another, and the size
+/// of each. The sealer stays as it is.
+fn put_sealed(
+    alloc: Global,
+    sealer: &AnySealer,
+    messages: &[KrbUnsealed<'_>],
+    out: &mut [u8],
+    sizes: &mut [usize],
+) -> Result<(), ManyFault>
+    requires { length messages.now ≤ length sizes.old }
+    ensures sealed { OnOk result (SealsPacked sealer.now messages.now out.old out.new
+        sizes.old sizes.new) }
+    ensures numbers { OnOk result (sealer.now.next + length messages.now ≤ end_of_numbers) }
+    ensures out_kept { OnErr result (out.new ≡ out.old) }
+    ensures sizes_kept { OnErr result (sizes.new ≡ sizes.old) }
+    ensures answer { ManyAnswer sealer.now messages.now (length out.old) result }
+{
+    check(sealer.session_sealer(), messages)?;
+    let frames = made(alloc, sealer, messages)?;
+    if !have_room(&frames, out.len()) {
+        return Err(ManyFault::All(Fault::Room));
+    }
+    put_frames(&frames, out, sizes);
+    Ok(())
+}
+
 /// Seals messages into a buffer that has room for their frames, one after another, and tells the size
 /// of each. What follows the frames and the sizes stays, and so does all if nothing is sealed.
 pub fn seal_many_into(
@@ -98,12 +125,29 @@ pub fn seal_many_into(
     ensures sizes_kept { OnErr result (sizes.new ≡ sizes.old) }
     ensures answer { ManyAnswer sealer.old messages.now (length out.old) result }
 {
-    check(sealer.session_sealer(), messages)?;
-    let frames = made(alloc, sealer, messages)?;
-    if !have_room(&frames, out.len()) {
-        return Err(ManyFault::All(Fault::Room));
-    }
-    put_frames(&frames, out, sizes);
+    put_sealed(alloc, sealer, messages, out, sizes)?;
     sealer.pass(messages.len() as u64);
+    Ok(())
+}
+
+/// The same by a peer, at its own next numbers. What it expects of the other end stays.
+pub fn peer_seal_many_into(
+    alloc: Global,
+    peer: &mut Peer,
+    messages: &[KrbUnsealed<'_>],
+    out: &mut [u8],
+    sizes: &mut [usize],
+) -> Result<(), ManyFault>
+    requires { length messages.now ≤ length sizes.old }
+    ensures sealed { OnOk result (SealsPacked peer.old.sealer messages.now out.old out.new
+        sizes.old sizes.new) }
+    ensures advanced { OnOk result (peer.new ≡ peer_sealed_many peer.old (length messages.now)) }
+    ensures unchanged { OnErr result (peer.new ≡ peer.old) }
+    ensures out_kept { OnErr result (out.new ≡ out.old) }
+    ensures sizes_kept { OnErr result (sizes.new ≡ sizes.old) }
+    ensures answer { ManyAnswer peer.old.sealer messages.now (length out.old) result }
+{
+    put_sealed(alloc, peer.any_sealer(), messages, out, sizes)?;
+    peer.pass(messages.len() as u64);
     Ok(())
 }

@@ -4,6 +4,7 @@ use Rattle.krb_seal.specs.Lent.{advanced_by}
 use Rattle.krb_seal.specs.Sealer.{SealerState}
 use Rattle.krb_structs.specs.declared.fault.Fault.TheVariants.{Argument, Empty}
 use Rattle.krb_structs.specs.Fault.{Needs, fault_code}
+use Rattle.krb_structs.specs.Peer.{PeerState, peer_sealed_many}
 use Rattle.krb_bulk_structs.specs.declared.many_fault.ManyFault.{ManyFault}
 use Rattle.krb_bulk_structs.specs.declared.many_fault.ManyFault.TheVariants.{Message, All}
 use Rattle.krb_bulk_structs.specs.declared.unsealed.KrbUnsealed.{KrbUnsealed}
@@ -49,3 +50,15 @@ abbrev pub ManyAnswerBy : Option SealerState → List KrbUnsealed → ℕ → �
 ManyAnswerBy o ms room old new code =
     ((most_messages < length ms) × (code ≡ fault_code Argument) × (new ≡ old))
     ⊎ ((length ms ≤ most_messages) × AnswerOfMany o ms room old new code)
+
+-- ---- by a peer's handle: its sealer's, whose numbers it passes over
+
+-- its sealer
+abbrev pub sealer_if : Option PeerState → Option SealerState
+sealer_if None = None
+sealer_if (Some p) = Some p.sealer
+
+-- a handle with a peer that sealed n frames more
+abbrev pub sealed_many_if : Option PeerState → ℕ → Option PeerState
+sealed_many_if None n = None
+sealed_many_if (Some p) n = Some (peer_sealed_many p n)

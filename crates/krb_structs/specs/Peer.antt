@@ -1,6 +1,7 @@
 -- One end of a session of plain user data, in both directions: it seals under its own numbers, and
 -- opens what the other end sealed, in order.
 use Rattle.std.specs.Prelude.{◌≡◌, ◌⊎◌, ℕ, ℤ, ◌+◌, ◌≤◌, List, replicate, Option, Some}
+use Rattle.krb_seal.specs.Lent.{advanced_by}
 use Rattle.krb_seal.specs.Opens.{OpenerState, opener_of}
 use Rattle.krb_seal.specs.Sealer.{SealerState, advanced, end_of_numbers, new_state}
 use Rattle.krb_structs.specs.declared.demand.KrbDemand.{KrbDemand}
@@ -66,6 +67,10 @@ Resumes etype key told d state p =
 -- the peer after a frame that it sealed
 abbrev pub peer_sealed : PeerState → PeerState
 peer_sealed p = record p { sealer = advanced p.sealer }
+
+-- the peer after so many frames that it sealed
+abbrev pub peer_sealed_many : PeerState → ℕ → PeerState
+peer_sealed_many p n = record p { sealer = advanced_by p.sealer n }
 
 -- the peer after a message that it opened
 abbrev pub peer_opened : PeerState → PeerState

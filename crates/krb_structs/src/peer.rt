@@ -1,11 +1,11 @@
 //! One end of a session of plain user data, in both directions.
 
-ghost use Rattle.std.specs.Prelude.{◌≡◌, ◌≤◌, ◌↔◌, true, drop, length, take, IfErr, IfOk, IsTrue, OnErr, OnOk, None, Some};
+ghost use Rattle.std.specs.Prelude.{◌≡◌, ◌≤◌, ◌↔◌, ◌+◌, true, drop, length, take, IfErr, IfOk, IsTrue, OnErr, OnOk, None, Some};
 ghost use Rattle.krb_seal.specs.Sealer.{SealsNext, end_of_numbers, wiped_state};
 ghost use Rattle.krb_structs.specs.Fault.{IsDone, Needs, answer_of};
 ghost use Rattle.krb_structs.specs.Moment.{micros_of};
 ghost use Rattle.krb_structs.specs.Opening.{GivesTo, MisordersTo};
-ghost use Rattle.krb_structs.specs.Peer.{CanResume, IsPeerDemand, Resumes, new_peer, peer_expect, peer_opened, peer_sealed};
+ghost use Rattle.krb_structs.specs.Peer.{CanResume, IsPeerDemand, Resumes, new_peer, peer_expect, peer_opened, peer_sealed, peer_sealed_many};
 ghost use Rattle.krb_structs.specs.PeerExport.{Exports, export_of};
 ghost use Rattle.krb_structs.specs.Reasons.{DemandAnswer, NewAnswer, PeerAnswer, ResumeAnswer, SealAnswer};
 ghost use Rattle.krb_structs.specs.Session.{IsSession};
@@ -181,6 +181,21 @@ impl Peer {
             (answer_of result) }
     {
         self.sealer.seal(alloc, user, at, confounder, out)
+    }
+
+    /// The sealer that it holds, for what seals several messages in one call.
+    pub fn any_sealer(&self) -> &AnySealer
+        ensures { result.now ≡ self.now.sealer }
+    {
+        &self.sealer
+    }
+
+    /// Passes over the numbers at which so many frames were sealed with that sealer.
+    pub fn pass(&mut self, count: u64)
+        requires { self.old.sealer.next + count ≤ end_of_numbers }
+        ensures { self.new ≡ peer_sealed_many self.old count }
+    {
+        self.sealer.pass(count);
     }
 
     /// Opens a frame of the other end's into a buffer if it carries the number that is expected, which

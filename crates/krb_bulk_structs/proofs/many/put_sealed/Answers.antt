@@ -1,6 +1,6 @@
 use Rattle.std.proofs.Common.{arith}
 use Rattle.krb_bulk_structs.proofs.TurnLemmas.{frame_count}
-use Rattle.krb_bulk_structs.proofs.many.seal_many_into.Goals as goal
+use Rattle.krb_bulk_structs.proofs.many.put_sealed.Goals as goal
 
 pub put_frames-requires-clause-count : goal.put_frames-requires-clause-count
 put_frames-requires-clause-count c =
