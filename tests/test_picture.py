@@ -9,7 +9,7 @@ import pytest
 
 from lib import scripts, toml_reader
 from lib.build import building
-from lib.picture import relayed, svg
+from lib.picture import engine, relayed, svg
 
 SVG = "{http://www.w3.org/2000/svg}"
 BOXES = {"box", "again", "raw", "good", "bad"}
@@ -190,3 +190,13 @@ def test_figure():
     assert maker.draw(other) != text, "it draws the numbers"
     rows = zip(*(maker.table_rows(it["messages"]) for it in (numbers, other)))
     assert [a == b for a, b in rows] == [True, False] + [True] * 3, "the table's rows have them"
+
+
+def test_ends_of_a_carrier():
+    text, page = engine.draw(), building.text_of(scripts.load("figure").ENGINE)
+    assert is_tidy(text) and kinds_are_known(text), "the picture of both ends is tidy"
+    assert list(engine.differences(page)) == []
+    other = page.replace("| `reconnected` |", "| `connected` |")
+    assert other != page and list(engine.differences(other)) == [
+        "'reconnected' is in docs/engine.svg, and no row of 'A session's end at a sender' begins with it",
+        "'connected' is a row of 'A session's end at a sender', and not in docs/engine.svg"]
