@@ -1,19 +1,16 @@
 //! What C calls to seal several messages.
 
 ghost use Rattle.std.specs.Prelude.{◌≡◌, length};
-ghost use Rattle.krb_c.specs.Many.{ManyAnswerBy, SealsManyTo, advanced_by_if, failed_by, many_code, sealed_many_if, sealer_if};
+ghost use Rattle.krb_c.specs.Many.{ManyAnswerBy, SealsManyTo, advanced_by_if, failed_by, many_code};
 
 use crate::handle::Handle;
-use crate::peer_handle::KrbPeer;
 use crate::sealer_handle::KrbSealer;
-use krb_bulk_structs::{
-    KrbUnsealed, MOST_MESSAGES, ManyFault, peer_seal_many_into, seal_many_into,
-};
+use krb_bulk_structs::{KrbUnsealed, MOST_MESSAGES, ManyFault, seal_many_into};
 use krb_structs::Fault;
 use std::alloc::Global;
 
 /// Answers 0 or the number of the fault. Where it is that of a message, it tells which.
-fn many_answer(failed: &mut usize, sealed: Result<(), ManyFault>) -> u32
+pub fn many_answer(failed: &mut usize, sealed: Result<(), ManyFault>) -> u32
     ensures answer { result ≡ many_code sealed }
     ensures failed { failed.new ≡ failed_by sealed failed.old }
 {
@@ -58,37 +55,5 @@ pub extern "C" fn krbrelay_sealer_seal_many(
     };
     let sealed = seal_many_into(alloc, &mut sealer, messages, out, sizes);
     handle.put(alloc, sealer);
-    many_answer(failed, sealed)
-}
-
-/// The same at the next sequence numbers of a peer. What it expects of the other end stays.
-#[unsafe(no_mangle)]
-pub extern "C" fn krbrelay_peer_seal_many(
-    alloc: Global,
-    handle: &mut KrbPeer,
-    messages: &[KrbUnsealed<'_>],
-    out: &mut [u8],
-    sizes: &mut [usize; MOST_MESSAGES],
-    failed: &mut usize,
-) -> u32
-    ensures sealed { result ≡ 0 → SealsManyTo (sealer_if handle.old.peer) messages.now out.old
-        out.new sizes.old sizes.new }
-    ensures advanced { result ≡ 0 → handle.new.peer
-        ≡ sealed_many_if handle.old.peer (length messages.now) }
-
-    ensures unchanged { ¬ (result ≡ 0) → handle.new.peer ≡ handle.old.peer }
-    ensures out_kept { ¬ (result ≡ 0) → out.new ≡ out.old }
-    ensures sizes_kept { ¬ (result ≡ 0) → sizes.new ≡ sizes.old }
-    ensures answer { ManyAnswerBy (sealer_if handle.old.peer) messages.now (length out.old)
-        failed.old failed.new result }
-{
-    if messages.len() > MOST_MESSAGES {
-        return Fault::Argument.code();
-    }
-    let Some(mut peer) = handle.take(alloc) else {
-        return Fault::Empty.code();
-    };
-    let sealed = peer_seal_many_into(alloc, &mut peer, messages, out, sizes);
-    handle.put(alloc, peer);
     many_answer(failed, sealed)
 }

@@ -2,13 +2,16 @@
 //! that doesn't hold.
 
 ghost use Rattle.std.specs.Prelude.{◌≡◌, ◌≤◌, drop, length, take, None, Some};
+ghost use Rattle.krb_c.specs.Many.{ManyAnswerBy, SealsManyTo, sealed_many_if, sealer_if};
 ghost use Rattle.krb_c.specs.Peers.{ExportsAt, HasNumbers, MisordersAt, OpenAnswerAt, OpensAt, ResumesIn, SealAnswerAt, SealsAt, opened_if, sealed_if};
 ghost use Rattle.krb_structs.specs.Moment.{micros_of};
 ghost use Rattle.krb_structs.specs.Peer.{new_peer};
 ghost use Rattle.krb_structs.specs.Reasons.{PeerAnswer, ResumeAnswer};
 
 use crate::handle::Handle;
+use crate::many_calls::many_answer;
 use crate::peer_handle::KrbPeer;
+use krb_bulk_structs::{KrbUnsealed, MOST_MESSAGES, peer_seal_many_into};
 use krb_structs::{EXPORT_SIZE, Fault, KrbCarried, KrbDemand, KrbMoment, KrbSession, Peer, answer};
 use std::alloc::Global;
 
@@ -98,6 +101,40 @@ pub extern "C" fn krbrelay_peer_seal(
     let sealed = peer.seal(alloc, user, at, confounder, out);
     handle.put(alloc, peer);
     answer(size, sealed)
+}
+
+/// Writes the frames of these messages at the next sequence numbers, one after another, and the size of
+/// each, as [`krbrelay_sealer_seal_many`](crate::many_calls::krbrelay_sealer_seal_many) does. What is expected of
+/// the other end stays.
+#[unsafe(no_mangle)]
+pub extern "C" fn krbrelay_peer_seal_many(
+    alloc: Global,
+    handle: &mut KrbPeer,
+    messages: &[KrbUnsealed<'_>],
+    out: &mut [u8],
+    sizes: &mut [usize; MOST_MESSAGES],
+    failed: &mut usize,
+) -> u32
+    ensures sealed { result ≡ 0 → SealsManyTo (sealer_if handle.old.peer) messages.now out.old
+        out.new sizes.old sizes.new }
+    ensures advanced { result ≡ 0 → handle.new.peer
+        ≡ sealed_many_if handle.old.peer (length messages.now) }
+
+    ensures unchanged { ¬ (result ≡ 0) → handle.new.peer ≡ handle.old.peer }
+    ensures out_kept { ¬ (result ≡ 0) → out.new ≡ out.old }
+    ensures sizes_kept { ¬ (result ≡ 0) → sizes.new ≡ sizes.old }
+    ensures answer { ManyAnswerBy (sealer_if handle.old.peer) messages.now (length out.old)
+        failed.old failed.new result }
+{
+    if messages.len() > MOST_MESSAGES {
+        return Fault::Argument.code();
+    }
+    let Some(mut peer) = handle.take(alloc) else {
+        return Fault::Empty.code();
+    };
+    let sealed = peer_seal_many_into(alloc, &mut peer, messages, out, sizes);
+    handle.put(alloc, peer);
+    many_answer(failed, sealed)
 }
 
 /// Opens a frame that carries the number which is expected, at this moment: writes its user data and
