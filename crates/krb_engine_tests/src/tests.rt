@@ -1,4 +1,5 @@
-//! A queue, a pause, a session's end at a sender and at a receiver, openings, and shards.
+//! A queue, a pause, a session's end at a sender and at a receiver, openings, and shards: what happens, step by step,
+//! and what each answers. The steps are rows of data, since a long function takes long to prove.
 
 use krb_copies::Receipt;
 use krb_engine::{
@@ -7,6 +8,7 @@ use krb_engine::{
     shard_laws, stream_laws,
 };
 use krb_queue::{Pause, Queue, pause_laws, queue_laws};
+use std::process::Abort;
 use std::test::Fail;
 
 /// The digests of a sender's own frames, and of another one's.
@@ -14,19 +16,41 @@ const OWN: [u8; 20] = [1; 20];
 
 const OTHER: [u8; 20] = [2; 20];
 
+// ---- a queue, and a pause
+
+/// What happens to a queue: a session is ready, or this one is served.
+#[derive(Clone, Copy)]
+enum Turn {
+    Ready(u32),
+    Serves(Option<u32>),
+}
+
+fn take_turn(rt: &impl Abort, queue: &mut Queue, turn: &Turn) -> Result<(), Fail> {
+    match *turn {
+        Turn::Ready(session) => queue.ready(session)?,
+        Turn::Serves(session) => assert_eq!(rt; queue.serve(), session),
+    }
+    Ok(())
+}
+
 #[test]
 fn sessions_wait_once_and_in_order(rt: HostRuntime) -> Result<(), Fail> {
     let mut queue = Queue::new(rt.alloc());
     assert!(rt; queue.is_empty());
-    queue.ready(7)?;
-    queue.ready(2)?;
-    queue.ready(7)?;
-    assert_eq!(rt; queue.len(), 2);
-    assert_eq!(rt; queue.serve(), Some(7));
-    queue.ready(7)?;
-    assert_eq!(rt; queue.serve(), Some(2));
-    assert_eq!(rt; queue.serve(), Some(7));
-    assert_eq!(rt; queue.serve(), None);
+    for turn in &[
+        Turn::Ready(7),
+        Turn::Ready(2),
+        Turn::Ready(7),
+        Turn::Serves(Some(7)),
+        Turn::Ready(7),
+        Turn::Serves(Some(2)),
+        Turn::Serves(Some(7)),
+        Turn::Serves(None),
+        Turn::Ready(3),
+    ] {
+        take_turn(&rt, &mut queue, turn)?;
+    }
+    assert_eq!(rt; queue.len(), 1);
     queue_laws();
     Ok(())
 }
@@ -34,53 +58,104 @@ fn sessions_wait_once_and_in_order(rt: HostRuntime) -> Result<(), Fail> {
 #[test]
 fn a_pause_doubles_up_to_its_cap(rt: HostRuntime) {
     let mut pause = Pause::begin(2_000, 10_000);
-    assert!(rt; !pause.is_over(11_999));
-    assert!(rt; pause.is_over(12_000));
-    assert!(rt; !pause.is_over(9_000));
-    pause.grow(5_000, 12_000);
-    assert_eq!(rt; pause.end(), 16_000);
-    pause.grow(5_000, 16_000);
-    assert_eq!(rt; pause.end(), 21_000);
+    for (now, is_over) in [(11_999, false), (12_000, true), (9_000, false)] {
+        assert_eq!(rt; pause.is_over(now), is_over);
+    }
+    for (now, end) in [(12_000, 16_000), (16_000, 21_000)] {
+        pause.grow(5_000, now);
+        assert_eq!(rt; pause.end(), end);
+    }
     assert_eq!(rt; Pause::begin(u64::MAX, 1).end(), u64::MAX);
     pause_laws();
+}
+
+// ---- a session's end at a sender
+
+/// What happens to a session's end at a sender, and what it answers.
+#[derive(Clone, Copy)]
+enum Step {
+    Sealed(u64),
+    Serves(u64, u64, Command),
+    Confirmed(u64, u64, u64, bool),
+    Listed(u64, bool),
+    Reconnected,
+    Receipt(u64, [u8; 20], Asks, u64, Heard),
+    Stands(Option<Stands>),
+    Window(u64),
+    Carried(u64),
+    Done(u64),
+}
+
+/// A receipt of the end's own frames, or of others.
+fn receipt_of(number: u64, history: [u8; 20]) -> Receipt {
+    Receipt { number, history }
+}
+
+fn take_step(rt: &impl Abort, sending: &mut Sending, step: &Step) {
+    match *step {
+        Step::Sealed(count) => {
+            assert!(rt; count < 1_000 && sending.progress().next() < 1_000);
+            sending.sealed(count);
+        }
+        Step::Serves(room, now, command) => assert_eq!(rt; sending.serve(room, now), command),
+        Step::Confirmed(number, offset, now, counts) => {
+            assert_eq!(rt; sending.confirmed(number, offset, now), counts);
+        }
+        Step::Listed(list, is_other) => assert_eq!(rt; sending.listed(list), is_other),
+        Step::Reconnected => sending.reconnected(),
+        Step::Receipt(number, history, asks, now, heard) => {
+            let receipt = receipt_of(number, history);
+            assert_eq!(rt; sending.receipt(&receipt, &OWN, asks, now), heard);
+        }
+        Step::Stands(why) => assert_eq!(rt; sending.stands(), why),
+        Step::Window(window) => assert_eq!(rt; sending.parts().window, window),
+        Step::Carried(carried) => assert_eq!(rt; sending.progress().carried(), carried),
+        Step::Done(done) => assert_eq!(rt; sending.done(), done),
+    }
+}
+
+fn take_steps(rt: &impl Abort, sending: &mut Sending, steps: &[Step]) {
+    for step in steps {
+        take_step(rt, sending, step);
+    }
+}
+
+/// So many frames leave from this number on.
+const fn publish(from: u64, count: u64) -> Command {
+    Command::Publish { from, count }
+}
+
+const fn wake(at: u64) -> Command {
+    Command::Wake { at }
 }
 
 #[test]
 fn frames_leave_until_the_window_is_full(rt: HostRuntime) {
     let mut sending = Sending::load(0, 0, 0, 0, 5, 0);
-    assert_eq!(rt; sending.serve(256, 0), Command::Idle);
-    sending.sealed(40);
-    assert_eq!(rt; sending.serve(3, 0), Command::Publish { from: 0, count: 3 });
-    assert_eq!(rt;
-        sending.serve(256, 0),
-        Command::Publish { from: 3, count: 13 }
-    );
-    assert_eq!(rt; sending.serve(256, 0), Command::Wake { at: 2_000 });
-    // with each frame that is confirmed one more may be under way
-    assert!(rt; sending.confirmed(0, 1, 100));
-    assert!(rt; !sending.confirmed(0, 2, 100));
-    assert_eq!(rt;
-        sending.serve(256, 100),
-        Command::Publish { from: 16, count: 2 }
-    );
-    assert_eq!(rt; sending.serve(256, 100), Command::Wake { at: 2_100 });
-    assert_eq!(rt; sending.parts().window, 17);
-    // what isn't confirmed in time leaves again
-    assert_eq!(rt; sending.serve(256, 2_099), Command::Wake { at: 2_100 });
-    assert_eq!(rt;
-        sending.serve(256, 2_100),
-        Command::Publish { from: 1, count: 16 }
-    );
-    sending.reconnected();
-    assert_eq!(rt;
-        sending.serve(256, 2_200),
-        Command::Publish { from: 1, count: 16 }
-    );
-    assert!(rt; !sending.listed(5));
-    assert!(rt; sending.listed(6));
-    assert_eq!(rt;
-        sending.serve(256, 2_300),
-        Command::Publish { from: 0, count: 16 }
+    take_steps(
+        &rt,
+        &mut sending,
+        &[
+            Step::Serves(256, 0, Command::Idle),
+            Step::Sealed(40),
+            Step::Serves(3, 0, publish(0, 3)),
+            Step::Serves(256, 0, publish(3, 13)),
+            Step::Serves(256, 0, wake(2_000)),
+            // with each frame that is confirmed one more may be under way
+            Step::Confirmed(0, 1, 100, true),
+            Step::Confirmed(0, 2, 100, false),
+            Step::Serves(256, 100, publish(16, 2)),
+            Step::Serves(256, 100, wake(2_100)),
+            Step::Window(17),
+            // what isn't confirmed in time leaves again
+            Step::Serves(256, 2_099, wake(2_100)),
+            Step::Serves(256, 2_100, publish(1, 16)),
+            Step::Reconnected,
+            Step::Serves(256, 2_200, publish(1, 16)),
+            Step::Listed(5, false),
+            Step::Listed(6, true),
+            Step::Serves(256, 2_300, publish(0, 16)),
+        ],
     );
     sending_laws();
 }
@@ -88,28 +163,33 @@ fn frames_leave_until_the_window_is_full(rt: HostRuntime) {
 #[test]
 fn an_end_is_kept_by_its_parts(rt: HostRuntime) -> Result<(), Fail> {
     let mut sending = Sending::load(6, 2, 9, 1, 5, 100);
-    assert_eq!(rt;
-        sending.serve(3, 100),
-        Command::Publish { from: 2, count: 3 }
-    );
+    assert_eq!(rt; sending.serve(3, 100), publish(2, 3));
     let parts = sending.parts();
-    assert_eq!(rt; parts.next, 6);
-    assert_eq!(rt; parts.carried, 2);
-    assert_eq!(rt; parts.at, 9);
-    assert_eq!(rt; parts.sent, 5);
-    assert_eq!(rt; parts.done, 1);
-    assert_eq!(rt; parts.list, 5);
-    assert_eq!(rt; parts.recovers, 1);
-    assert_eq!(rt; parts.window, 16);
-    assert_eq!(rt; parts.ask, None);
-    assert!(rt; !parts.is_held && !parts.is_answered);
-    assert_eq!(rt; parts.again, Pause::begin(2_000, 100));
-    assert_eq!(rt; parts.probe, Pause::begin(5_000, 100));
+    let SendingParts {
+        next,
+        carried,
+        at,
+        sent,
+        done,
+        list,
+        recovers,
+        window,
+        ..
+    } = parts;
+    assert_eq!(rt;
+        [next, carried, at, sent, done, list, recovers, window],
+        [6, 2, 9, 5, 1, 5, 1, 16]
+    );
+    assert!(rt; parts.ask.is_none() && !parts.is_held && !parts.is_answered);
+    assert_eq!(rt;
+        [parts.again, parts.probe],
+        [Pause::begin(2_000, 100), Pause::begin(5_000, 100)]
+    );
     assert_eq!(rt; parts.ended, None);
     let Some(mut again) = Sending::restore(&parts) else {
         return Err(Fail::from("the parts of an end are none"));
     };
-    assert_eq!(rt; again.serve(8, 100), Command::Publish { from: 5, count: 1 });
+    assert_eq!(rt; again.serve(8, 100), publish(5, 1));
     // what took effect was carried, what is carried was published, and only what is stored is published
     for (done, carried, sent, next, window) in [
         (3, 2, 5, 6, 16),
@@ -133,96 +213,69 @@ fn an_end_is_kept_by_its_parts(rt: HostRuntime) -> Result<(), Fail> {
 #[test]
 fn receipts_alone_settle(rt: HostRuntime) {
     let mut sending = Sending::load(4, 4, 9, 0, 5, 0);
-    // no receipt comes: the last carried frame is probed, with the opening
-    assert_eq!(rt; sending.serve(256, 4_999), Command::Wake { at: 5_000 });
-    assert_eq!(rt;
-        sending.serve(256, 5_000),
-        Command::Probe {
-            number: 3,
-            opening: true
-        }
-    );
-    assert_eq!(rt; sending.serve(256, 5_000), Command::Wake { at: 15_000 });
-    assert_eq!(rt; sending.stands(), None);
-    let two = Receipt {
-        number: 2,
-        history: OWN,
+    let probe = Command::Probe {
+        number: 3,
+        opening: true,
     };
-    assert_eq!(rt;
-        sending.receipt(&two, &OWN, Asks::Nothing, 6_000),
-        Heard::Delivered
-    );
-    assert_eq!(rt; sending.done(), 2);
-    assert_eq!(rt;
-        sending.receipt(&two, &OWN, Asks::Nothing, 6_000),
-        Heard::Nothing
-    );
-    // the third frame is missing: it leaves again, alone
-    assert_eq!(rt;
-        sending.receipt(&two, &OWN, Asks::Missing, 6_100),
-        Heard::Nothing
-    );
-    assert_eq!(rt;
-        sending.serve(256, 6_100),
-        Command::Publish { from: 2, count: 1 }
-    );
-    assert!(rt; sending.confirmed(2, 10, 6_200));
-    // a receiver that asks again too soon isn't heeded
-    assert_eq!(rt;
-        sending.receipt(&two, &OWN, Asks::Refused, 6_300),
-        Heard::Nothing
-    );
-    assert_eq!(rt; sending.progress().carried(), 3);
-    // it asks again later, since it refuses the frame, which then leaves after a pause
-    assert_eq!(rt;
-        sending.receipt(&two, &OWN, Asks::Refused, 10_100),
-        Heard::Nothing
-    );
-    assert_eq!(rt; sending.serve(256, 10_100), Command::Wake { at: 18_100 });
-    assert_eq!(rt; sending.stands(), Some(Stands::Refused));
-    assert_eq!(rt;
-        sending.serve(256, 18_100),
-        Command::Publish { from: 2, count: 1 }
-    );
-    let four = Receipt {
-        number: 4,
-        history: OWN,
-    };
-    assert_eq!(rt;
-        sending.receipt(&four, &OWN, Asks::Nothing, 18_200),
-        Heard::Delivered
+    take_steps(
+        &rt,
+        &mut sending,
+        &[
+            // no receipt comes: the last carried frame is probed, with the opening
+            Step::Serves(256, 4_999, wake(5_000)),
+            Step::Serves(256, 5_000, probe),
+            Step::Serves(256, 5_000, wake(15_000)),
+            Step::Stands(None),
+            Step::Receipt(2, OWN, Asks::Nothing, 6_000, Heard::Delivered),
+            Step::Done(2),
+            Step::Receipt(2, OWN, Asks::Nothing, 6_000, Heard::Nothing),
+            // the third frame is missing: it leaves again, alone
+            Step::Receipt(2, OWN, Asks::Missing, 6_100, Heard::Nothing),
+            Step::Serves(256, 6_100, publish(2, 1)),
+            Step::Confirmed(2, 10, 6_200, true),
+            // a receiver that asks again too soon isn't heeded
+            Step::Receipt(2, OWN, Asks::Refused, 6_300, Heard::Nothing),
+            Step::Carried(3),
+            // it asks again later, since it refuses the frame, which then leaves after a pause
+            Step::Receipt(2, OWN, Asks::Refused, 10_100, Heard::Nothing),
+            Step::Serves(256, 10_100, wake(18_100)),
+            Step::Stands(Some(Stands::Refused)),
+            Step::Serves(256, 18_100, publish(2, 1)),
+            Step::Receipt(4, OWN, Asks::Nothing, 18_200, Heard::Delivered),
+            Step::Serves(256, 18_200, Command::Idle),
+        ],
     );
     assert!(rt; sending.is_settled());
-    assert_eq!(rt; sending.serve(256, 18_200), Command::Idle);
 }
 
 #[test]
 fn an_older_outbox_and_a_fork_are_stopped(rt: HostRuntime) {
     let mut older = Sending::load(4, 4, 9, 0, 5, 0);
-    let five = Receipt {
-        number: 5,
-        history: OWN,
-    };
-    assert_eq!(rt; older.receipt(&five, &OWN, Asks::Nothing, 0), Heard::Ended);
+    take_steps(
+        &rt,
+        &mut older,
+        &[
+            Step::Receipt(5, OWN, Asks::Nothing, 0, Heard::Ended),
+            Step::Stands(Some(Stands::Stopped(Ended::Older))),
+            Step::Serves(256, 99_000, Command::Idle),
+        ],
+    );
     assert_eq!(rt; older.ended(), Some(Ended::Older));
-    assert_eq!(rt; older.stands(), Some(Stands::Stopped(Ended::Older)));
-    assert_eq!(rt; older.serve(256, 99_000), Command::Idle);
     let mut forked = Sending::load(4, 4, 9, 0, 5, 0);
-    let three = Receipt {
-        number: 3,
-        history: OTHER,
-    };
-    assert_eq!(rt;
-        forked.receipt(&three, &OWN, Asks::Missing, 0),
-        Heard::Ended
+    take_steps(
+        &rt,
+        &mut forked,
+        &[
+            Step::Receipt(3, OTHER, Asks::Missing, 0, Heard::Ended),
+            Step::Stands(Some(Stands::Stopped(Ended::Forked))),
+            Step::Receipt(3, OWN, Asks::Nothing, 0, Heard::Nothing),
+            Step::Done(0),
+        ],
     );
     assert_eq!(rt; forked.ended(), Some(Ended::Forked));
-    assert_eq!(rt;
-        forked.receipt(&three, &OTHER, Asks::Nothing, 0),
-        Heard::Nothing
-    );
-    assert_eq!(rt; forked.done(), 0);
 }
+
+// ---- a session's end at a receiver
 
 /// The code of a frame (RFC 3962, section 6), and SHA-1 of 20 zeros and these 12 bytes.
 const TAG: [u8; 12] = [
@@ -252,132 +305,122 @@ fn passes(is_close: bool) -> Seen {
     }
 }
 
-#[test]
-fn receipts_are_of_what_is_stored(rt: HostRuntime) {
-    let none = Receipt {
-        number: 3,
-        history: [0; 20],
-    };
-    let mut end = Receiving::load(
+/// What happens to a session's end at a receiver, and what it answers.
+#[derive(Clone, Copy)]
+enum Comes {
+    Frame(Seen, Outcome),
+    Stored,
+    Dropped,
+    Receipt(u64, Option<(Receipt, Asks)>),
+    Owes(Option<Asks>),
+}
+
+fn take_frame(rt: &impl Abort, end: &mut Receiving, seen: Seen, outcome: Outcome) {
+    assert!(rt; end.drafted.demanded.number < 100);
+    assert_eq!(rt; end.take(&TAG, seen), outcome);
+}
+
+fn take_all(rt: &impl Abort, end: &mut Receiving, all: &[Comes]) {
+    for it in all {
+        match *it {
+            Comes::Frame(seen, outcome) => take_frame(rt, end, seen, outcome),
+            Comes::Stored => end.stored(),
+            Comes::Dropped => end.dropped(),
+            Comes::Receipt(now, receipt) => assert_eq!(rt; end.receipt(now), receipt),
+            Comes::Owes(asks) => assert_eq!(rt; end.owed, asks),
+        }
+    }
+}
+
+/// An end that demands number 3, of which nothing took effect.
+fn demanding_three() -> Receiving {
+    Receiving::load(
         Row {
-            demanded: none,
+            demanded: receipt_of(3, [0; 20]),
             closed: false,
         },
         0,
+    )
+}
+
+#[test]
+fn receipts_are_of_what_is_stored(rt: HostRuntime) {
+    let mut end = demanding_three();
+    let (none, one) = (receipt_of(3, [0; 20]), receipt_of(4, HISTORY_OF_ONE));
+    take_all(
+        &rt,
+        &mut end,
+        &[
+            Comes::Receipt(0, None),
+            Comes::Frame(refused(Some(5)), Outcome::Early),
+            // not before the transaction took effect
+            Comes::Receipt(0, None),
+            Comes::Stored,
+            Comes::Receipt(10, Some((none, Asks::Missing))),
+            Comes::Frame(passes(false), Outcome::Accepted),
+            Comes::Stored,
+            // not soon after another one
+            Comes::Receipt(209, None),
+            Comes::Receipt(210, Some((one, Asks::Nothing))),
+            // a transaction that had no effect leaves nothing
+            Comes::Frame(passes(false), Outcome::Accepted),
+            Comes::Dropped,
+            Comes::Receipt(999, None),
+        ],
     );
-    assert_eq!(rt; end.receipt(0), None);
-    assert!(rt; end.drafted.demanded.number < 100);
-    assert_eq!(rt; end.take(&TAG, refused(Some(5))), Outcome::Early);
-    // not before the transaction took effect
-    assert_eq!(rt; end.receipt(0), None);
-    end.stored();
-    assert_eq!(rt; end.receipt(10), Some((none, Asks::Missing)));
-    assert!(rt; end.drafted.demanded.number < 100);
-    assert_eq!(rt; end.take(&TAG, passes(false)), Outcome::Accepted);
-    end.stored();
-    // not soon after another one
-    assert_eq!(rt; end.receipt(209), None);
-    let one = Receipt {
-        number: 4,
-        history: HISTORY_OF_ONE,
-    };
-    assert_eq!(rt; end.receipt(210), Some((one, Asks::Nothing)));
-    // a transaction that had no effect leaves nothing
-    assert!(rt; end.drafted.demanded.number < 100);
-    assert_eq!(rt; end.take(&TAG, passes(false)), Outcome::Accepted);
-    end.dropped();
     assert_eq!(rt; end.drafted.demanded, one);
-    assert_eq!(rt; end.receipt(999), None);
     receiving_laws();
 }
 
 #[test]
 fn frames_are_told_by_their_numbers(rt: HostRuntime) {
-    let none = Receipt {
-        number: 3,
-        history: [0; 20],
-    };
-    let mut end = Receiving::load(
-        Row {
-            demanded: none,
-            closed: false,
-        },
-        0,
+    let mut end = demanding_three();
+    take_all(
+        &rt,
+        &mut end,
+        &[
+            Comes::Frame(refused(None), Outcome::Unknown),
+            Comes::Owes(None),
+            Comes::Frame(refused(Some(2)), Outcome::Repeat),
+            Comes::Owes(Some(Asks::Nothing)),
+            Comes::Frame(refused(Some(3)), Outcome::Unsettled),
+            Comes::Frame(refused(Some(4)), Outcome::Early),
+            Comes::Owes(Some(Asks::Refused)),
+            Comes::Frame(passes(true), Outcome::Accepted),
+            Comes::Frame(passes(false), Outcome::Repeat),
+        ],
     );
-    assert!(rt; end.drafted.demanded.number < 100);
-    assert_eq!(rt; end.take(&TAG, refused(None)), Outcome::Unknown);
-    assert_eq!(rt; end.owed, None);
-    assert!(rt; end.drafted.demanded.number < 100);
-    assert_eq!(rt; end.take(&TAG, refused(Some(2))), Outcome::Repeat);
-    assert_eq!(rt; end.owed, Some(Asks::Nothing));
-    assert!(rt; end.drafted.demanded.number < 100);
-    assert_eq!(rt; end.take(&TAG, refused(Some(3))), Outcome::Unsettled);
-    assert!(rt; end.drafted.demanded.number < 100);
-    assert_eq!(rt; end.take(&TAG, refused(Some(4))), Outcome::Early);
-    assert_eq!(rt; end.owed, Some(Asks::Refused));
-    assert!(rt; end.drafted.demanded.number < 100);
-    assert_eq!(rt; end.take(&TAG, passes(true)), Outcome::Accepted);
-    assert!(rt; end.drafted.demanded.number < 100);
-    assert_eq!(rt; end.take(&TAG, passes(false)), Outcome::Repeat);
     assert!(rt; end.drafted.closed);
 }
 
 #[test]
 fn sessions_of_a_stream_begin_in_turn(rt: HostRuntime) {
-    let none = Receipt {
-        number: 0,
-        history: [0; 20],
-    };
-    let own = Receipt {
-        number: 9,
-        history: OWN,
-    };
-    let first = Opening {
-        turn: 1,
-        before: none,
-    };
-    let second = Opening {
-        turn: 2,
-        before: own,
-    };
-    assert_eq!(rt; judge(None, &first), Judged::Begins);
-    assert_eq!(rt; judge(None, &second), Judged::Later);
+    let (none, own) = (receipt_of(0, [0; 20]), receipt_of(9, OWN));
     let open = Head {
         turn: 1,
         closed: false,
         took: own,
     };
-    assert_eq!(rt; judge(Some(open), &second), Judged::Later);
     let closed = Head {
-        turn: 1,
         closed: true,
-        took: own,
+        ..open
     };
-    assert_eq!(rt; judge(Some(closed), &second), Judged::Begins);
-    assert_eq!(rt; judge(Some(closed), &first), Judged::Forked);
-    let other = Opening {
-        turn: 2,
-        before: Receipt {
-            number: 9,
-            history: OTHER,
-        },
-    };
-    assert_eq!(rt; judge(Some(closed), &other), Judged::Forked);
-    let shorter = Opening {
-        turn: 2,
-        before: Receipt {
-            number: 8,
-            history: OWN,
-        },
-    };
-    assert_eq!(rt; judge(Some(closed), &shorter), Judged::Forked);
-    let third = Opening {
-        turn: 3,
-        before: own,
-    };
-    assert_eq!(rt; judge(Some(closed), &third), Judged::Later);
+    for (head, turn, before, judged) in [
+        (None, 1, none, Judged::Begins),
+        (None, 2, own, Judged::Later),
+        (Some(open), 2, own, Judged::Later),
+        (Some(closed), 2, own, Judged::Begins),
+        (Some(closed), 1, none, Judged::Forked),
+        (Some(closed), 2, receipt_of(9, OTHER), Judged::Forked),
+        (Some(closed), 2, receipt_of(8, OWN), Judged::Forked),
+        (Some(closed), 3, own, Judged::Later),
+    ] {
+        assert_eq!(rt; judge(head, &Opening { turn, before }), judged);
+    }
     stream_laws();
 }
+
+// ---- shards
 
 #[test]
 fn a_shard_has_room_for_so_many(rt: HostRuntime) {
@@ -392,32 +435,44 @@ fn a_shard_has_room_for_so_many(rt: HostRuntime) {
     assert_eq!(rt; flow.under_way, 13);
     let mut sending = Sending::load(300, 4, 9, 4, 5, 0);
     assert_eq!(rt; sending.sealing_room(), 0);
-    assert_eq!(rt;
-        sending.serve(flow.room(), 0),
-        Command::Publish { from: 4, count: 16 }
-    );
+    assert_eq!(rt; sending.serve(flow.room(), 0), publish(4, 16));
     assert_eq!(rt; sending.under_way(), 16);
     shard_laws();
 }
 
+/// What a shard of a receiver reads: the list, its last offset and so many frames, and what that results in, with the
+/// place up to which it is read then.
+fn read(rt: &impl Abort, reading: &mut Reading, found: (u64, u64, u64), answer: Read, at: Spot) {
+    let (list, last, count) = found;
+    assert!(rt; reading.read.offset < 100 && count < 100);
+    assert_eq!(rt; reading.frames(list, last, count), answer);
+    assert_eq!(rt; reading.read, at);
+}
+
+/// A place in a list.
+fn spot(list: u64, offset: u64) -> Spot {
+    Spot { list, offset }
+}
+
 #[test]
 fn a_shard_is_read_on(rt: HostRuntime) {
-    let mut reading = Reading::load(Spot { list: 5, offset: 7 });
-    assert!(rt; reading.read.offset < 100);
-    assert_eq!(rt; reading.frames(5, 7, 0), Read::Nothing);
-    assert!(rt; reading.read.offset < 100);
-    assert_eq!(rt; reading.frames(5, 9, 2), Read::Take);
-    assert!(rt; reading.read.offset < 100);
-    // one transaction at a time
-    assert_eq!(rt; reading.frames(5, 12, 3), Read::Nothing);
+    let mut reading = Reading::load(spot(5, 7));
+    for (found, answer, at) in [
+        ((5, 7, 0), Read::Nothing, spot(5, 7)),
+        ((5, 9, 2), Read::Take, spot(5, 9)),
+        // one transaction at a time
+        ((5, 12, 3), Read::Nothing, spot(5, 9)),
+    ] {
+        read(&rt, &mut reading, found, answer, at);
+    }
     reading.stored();
-    assert_eq!(rt; reading.stored, Spot { list: 5, offset: 9 });
-    assert!(rt; reading.read.offset < 100);
-    // its end was cut off
-    assert_eq!(rt; reading.frames(5, 6, 0), Read::Elsewhere);
-    assert_eq!(rt; reading.read, Spot { list: 5, offset: 6 });
-    assert!(rt; reading.read.offset < 100);
-    assert_eq!(rt; reading.frames(8, 3, 3), Read::Elsewhere);
-    assert_eq!(rt; reading.read, Spot { list: 8, offset: 0 });
-    assert_eq!(rt; reading.stored, Spot { list: 5, offset: 9 });
+    assert_eq!(rt; reading.stored, spot(5, 9));
+    for (found, answer, at) in [
+        // its end was cut off
+        ((5, 6, 0), Read::Elsewhere, spot(5, 6)),
+        ((8, 3, 3), Read::Elsewhere, spot(8, 0)),
+    ] {
+        read(&rt, &mut reading, found, answer, at);
+    }
+    assert_eq!(rt; reading.stored, spot(5, 9));
 }
