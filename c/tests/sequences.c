@@ -314,7 +314,7 @@ static void draw_several(void)
     }
 }
 
-/* What sealing them answers: that of the first that can't be, whose index is told. */
+/* What sealing them answers: the answer of the first message that can't be sealed, and its index. */
 static enum krbrelay_answer of_several(const struct held *m, size_t *failed)
 {
     enum krbrelay_answer answer = FIRST_OF(UNLESS(several.count <= KRBRELAY_MOST_MESSAGES, KRBRELAY_ARGUMENT),
