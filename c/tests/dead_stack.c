@@ -72,28 +72,11 @@ __attribute__((noinline)) static void note_below(void)
     below = __builtin_frame_address(0);
 }
 
-/* Messages that are sealed in one call: eight side by side, four, and one. */
-enum { MANY = 13 };
-
-static struct krbrelay_unsealed many[MANY];
-static uint8_t many_frames[MANY * ROOM];
-static size_t many_sizes[KRBRELAY_MOST_MESSAGES], many_failed;
-
-static void make_many(void)
-{
-    for (int i = 0; i < MANY; i++) {
-        many[i] = (struct krbrelay_unsealed){ .user_data = data, .user_data_len = SIZE, .at = now };
-        memcpy(many[i].confounder, confounder, sizeof confounder);
-    }
-}
-
 static void use_sealer(void)
 {
     struct krbrelay_session session = session_of(use.mode, 7);
     struct krbrelay_sealer s = KRBRELAY_INIT;
     CHECK(krbrelay_sealer_new(&s, use.etype, key, key_size(use.etype), &session) == KRBRELAY_OK);
-    CHECK(krbrelay_sealer_seal_many(&s, many, MANY, many_frames, sizeof many_frames, many_sizes, &many_failed)
-          == KRBRELAY_OK);
     CHECK(krbrelay_sealer_seal(&s, data, SIZE, &now, confounder, frame, ROOM, &frame_size)
           == KRBRELAY_OK);
     krbrelay_sealer_free(&s);
@@ -125,6 +108,21 @@ static void use_receiver(void)
     CHECK(krbrelay_receiver_take(&r, frame, frame_size, &now, &kind, text, ROOM, &size)
           == KRBRELAY_OK);
     krbrelay_receiver_free(&r);
+}
+
+/* Messages that are sealed in one call: eight side by side, four, and one. */
+enum { MANY = 13 };
+
+static struct krbrelay_unsealed many[MANY];
+static uint8_t many_frames[MANY * ROOM];
+static size_t many_sizes[KRBRELAY_MOST_MESSAGES], many_failed;
+
+static void make_many(void)
+{
+    for (int i = 0; i < MANY; i++) {
+        many[i] = (struct krbrelay_unsealed){ .user_data = data, .user_data_len = SIZE, .at = now };
+        memcpy(many[i].confounder, confounder, sizeof confounder);
+    }
 }
 
 /* A peer that seals, also several messages in one call, is offered its own message and the other end's, and goes on
@@ -173,6 +171,8 @@ static void use_others(void)
     CHECK(krbrelay_sealer_set_mode(&s, use.mode) == KRBRELAY_OK);
     CHECK(krbrelay_sealer_frame_size(&s, SIZE, &now, &n) == KRBRELAY_OK);
     CHECK(krbrelay_sealer_seal_record_now(&s, KRBRELAY_TEXT, data, SIZE, other, ROOM, &size)
+          == KRBRELAY_OK);
+    CHECK(krbrelay_sealer_seal_many(&s, many, MANY, many_frames, sizeof many_frames, many_sizes, &many_failed)
           == KRBRELAY_OK);
     CHECK(krbrelay_opener_new(&o, use.etype, key, key_size(use.etype), &expect) == KRBRELAY_OK);
     CHECK(krbrelay_message_header(frame, frame_size, &header) == KRBRELAY_OK);
