@@ -481,9 +481,7 @@ pub(crate) fn seal_many(
     let handle = sealer.raw.get();
     sealed_many(messages, |from, to, room, sizes, failed| {
         // SAFETY: the module's rule; the handle is a sealer's.
-        unsafe {
-            krbrelay_sealer_seal_many(handle, from.as_ptr(), from.len(), to, room, sizes, failed)
-        }
+        unsafe { krbrelay_sealer_seal_many(handle, from.as_ptr(), from.len(), to, room, sizes, failed) }
     })
 }
 

@@ -4,8 +4,8 @@ mod common;
 
 use common::{expect, frames, from, session, AES128, AES256, AT, DRAWN, FIRST, LAST, RECEIVER};
 use krbrelay::{
-    message_header, Batch, Demand, Error, Key, ManyError, Message, Mode, Numbers, Opener, Peer, Receiver,
-    Record, Sealer, Session, MOST_MESSAGES,
+    message_header, Batch, Demand, Error, Key, ManyError, Message, Mode, Numbers, Opener, Peer,
+    Receiver, Record, Sealer, Session, MOST_MESSAGES,
 };
 
 type Row = (&'static str, Mode, Key<'static>, u32, Vec<Record>);
