@@ -46,11 +46,13 @@ static inline enum krbrelay_answer new_peer(struct krbrelay_peer *handle, int32_
     return answer;
 }
 
-// Go may pass no array of pointers to C: so the user data of all messages stand one after the other.
-static inline enum krbrelay_answer seal_many(struct krbrelay_sealer *handle, const uint8_t *user_data,
-                                             const size_t *lens, const struct krbrelay_moment *ats,
-                                             const uint8_t *confounders, size_t count, uint8_t *frames,
-                                             size_t room, size_t *sizes, size_t *failed)
+// By a sealer, or by a peer where that isn't NULL. Go may pass no array of pointers to C: so the user data of all
+// messages stand one after the other.
+static inline enum krbrelay_answer seal_many(struct krbrelay_sealer *sealer, struct krbrelay_peer *peer,
+                                             const uint8_t *user_data, const size_t *lens,
+                                             const struct krbrelay_moment *ats, const uint8_t *confounders,
+                                             size_t count, uint8_t *frames, size_t room, size_t *sizes,
+                                             size_t *failed)
 {
     struct krbrelay_unsealed messages[KRBRELAY_MOST_MESSAGES];
     for (size_t i = 0; i < count && i < KRBRELAY_MOST_MESSAGES; i++) {
@@ -61,7 +63,8 @@ static inline enum krbrelay_answer seal_many(struct krbrelay_sealer *handle, con
             messages[i].confounder[k] = confounders[16 * i + k];
         user_data += lens[i];
     }
-    return krbrelay_sealer_seal_many(handle, messages, count, frames, room, sizes, failed);
+    return peer == NULL ? krbrelay_sealer_seal_many(sealer, messages, count, frames, room, sizes, failed)
+                        : krbrelay_peer_seal_many(peer, messages, count, frames, room, sizes, failed);
 }
 
 static inline void free_sealer(struct krbrelay_sealer *handle)

@@ -57,12 +57,17 @@ func TestSealingMakesTheseFrames(t *testing.T) {
 	}
 }
 
-// Messages of one call are those of as many calls, which the rows above compare with another sealer's.
-func TestMessagesOfOneCall(t *testing.T) {
+func severalMessages() []krbrelay.Message {
 	messages := make([]krbrelay.Message, krbrelay.MostMessages)
 	for i := range messages {
 		messages[i] = krbrelay.Message{UserData: bytes.Repeat([]byte{byte(i)}, 41*i), Time: then, Confounder: [16]byte{byte(i)}}
 	}
+	return messages
+}
+
+// Messages of one call are those of as many calls, which the rows above compare with another sealer's.
+func TestMessagesOfOneCall(t *testing.T) {
+	messages := severalMessages()
 	for _, key := range [][]byte{key128, key256} {
 		for _, mode := range []krbrelay.Mode{krbrelay.Safe, krbrelay.Priv} {
 			for _, count := range []int{0, 1, 3, 4, 8, 13, krbrelay.MostMessages} {
@@ -97,6 +102,73 @@ func TestTheFirstMessageThatFailsIsNamed(t *testing.T) {
 	}
 	if made := must[[][]byte](t)(sealer.SealMany(make3(then)[:2])); len(made) != 2 {
 		t.Errorf("%d messages", len(made))
+	}
+}
+
+func peerOf(t *testing.T, key []byte, mode krbrelay.Mode, number uint32) *krbrelay.Peer {
+	demand := krbrelay.DemandOf(receiver)
+	demand.Number = krbrelay.Of(uint64(9))
+	return must[*krbrelay.Peer](t)(krbrelay.NewPeer(etypeOf(key), key, session(mode, number), demand))
+}
+
+// sealedByPeers compares the messages of one call with those of single calls, which the other end opens.
+func sealedByPeers(t *testing.T, key []byte, mode krbrelay.Mode, messages []krbrelay.Message) {
+	single, many := peerOf(t, key, mode, first), peerOf(t, key, mode, first)
+	defer single.Close()
+	defer many.Close()
+	demand := krbrelay.DemandOf(sender)
+	demand.Number = krbrelay.Of(uint64(first))
+	other := must[*krbrelay.Peer](t)(krbrelay.NewPeer(etypeOf(key), key, krbrelay.Session{Mode: mode, Sender: receiver}, demand))
+	defer other.Close()
+	made := must[[][]byte](t)(many.SealMany(messages))
+	if len(made) != len(messages) {
+		t.Fatalf("%d messages of %d", len(made), len(messages))
+	}
+	for i, it := range messages {
+		if !bytes.Equal(made[i], must[[]byte](t)(single.SealAt(it.UserData, it.Time, it.Confounder))) {
+			t.Errorf("message %d of %d", i, len(messages))
+		}
+		if body := must[*krbrelay.Body](t)(other.Open(made[i], then)); !bytes.Equal(body.UserData, it.UserData) {
+			t.Errorf("message %d of %d, opened", i, len(messages))
+		}
+	}
+	if numbers := must[krbrelay.Numbers](t)(many.Numbers()); numbers != (krbrelay.Numbers{Next: uint64(first + len(messages)), Expected: 9}) {
+		t.Error(numbers)
+	}
+}
+
+func TestMessagesOfOneCallOfAPeer(t *testing.T) {
+	messages := severalMessages()
+	for _, key := range [][]byte{key128, key256} {
+		for _, mode := range []krbrelay.Mode{krbrelay.Safe, krbrelay.Priv} {
+			for _, count := range []int{0, 1, 3, 4, 8, 13, krbrelay.MostMessages} {
+				sealedByPeers(t, key, mode, messages[:count])
+			}
+		}
+	}
+}
+
+func TestTheFirstMessageOfAPeerThatFailsIsNamed(t *testing.T) {
+	peer := peerOf(t, key256, krbrelay.Priv, last-1)
+	var many *krbrelay.ManyError
+	if _, err := peer.SealMany(make3(then)); !errors.As(err, &many) || many.Index != 2 || !errors.Is(err, krbrelay.ErrExhausted) {
+		t.Errorf("past the last number: %v", err)
+	}
+	if _, err := peer.SealMany(make([]krbrelay.Message, krbrelay.MostMessages+1)); !errors.As(err, &many) || many.Index != -1 || !errors.Is(err, krbrelay.ErrArgument) {
+		t.Errorf("too many: %v", err)
+	}
+	if _, err := peer.SealMany([]krbrelay.Message{{Time: then}, {Time: time.Unix(-1, 0)}}); !errors.As(err, &many) || many.Index != 1 || !errors.Is(err, krbrelay.ErrMoment) {
+		t.Errorf("a time before 1970: %v", err)
+	}
+	if numbers := must[krbrelay.Numbers](t)(peer.Numbers()); numbers != (krbrelay.Numbers{Next: last - 1, Expected: 9}) {
+		t.Error(numbers)
+	}
+	if made := must[[][]byte](t)(peer.SealMany(make3(then)[:2])); len(made) != 2 {
+		t.Errorf("%d messages", len(made))
+	}
+	peer.Close()
+	if _, err := peer.SealMany(make3(then)); !errors.As(err, &many) || many.Index != -1 || !errors.Is(err, krbrelay.ErrEmpty) {
+		t.Errorf("closed: %v", err)
 	}
 }
 

@@ -76,6 +76,14 @@ func (p *Peer) SealAt(userData []byte, t time.Time, confounder [16]byte) ([]byte
 	})
 }
 
+// SealMany makes the messages that as many calls of SealAt make one after another, as Sealer.SealMany makes them.
+func (p *Peer) SealMany(messages []Message) ([][]byte, error) {
+	return sealMany(&p.lock, messages, func(all *several) answer {
+		return C.seal_many(nil, &p.raw, at(all.userData), &all.lens[0], &all.times[0], at(all.confounders),
+			C.size_t(len(messages)), at(all.frames), C.size_t(len(all.frames)), &all.sizes[0], &all.failed)
+	})
+}
+
 // Open is what a message of the other end with the expected number carries, opened at this moment, such as
 // time.Now(). The number is one more then. Its error is OutOfOrder, or ErrBadOrder of a message without a number,
 // where the message is authentic and meets all but the number. ErrMoment, ErrEmpty, a refusal, ErrMemory.

@@ -82,63 +82,68 @@ func (e *ManyError) Unwrap() error { return e.Err }
 // eight side by side. All are sealed or none: the error is a *ManyError, with ErrArgument of more than
 // MostMessages.
 func (s *Sealer) SealMany(messages []Message) ([][]byte, error) {
+	return sealMany(&s.lock, messages, func(all *several) answer {
+		return C.seal_many(&s.raw, nil, at(all.userData), &all.lens[0], &all.times[0], at(all.confounders),
+			C.size_t(len(messages)), at(all.frames), C.size_t(len(all.frames)), &all.sizes[0], &all.failed)
+	})
+}
+
+// sealMany is SealMany of what has this lock, by a call of C.
+func sealMany(lock *sync.Mutex, messages []Message, call func(all *several) answer) ([][]byte, error) {
 	if len(messages) == 0 {
 		return nil, nil
 	}
 	if len(messages) > MostMessages {
 		return nil, &ManyError{-1, ErrArgument}
 	}
-	given, err := together(messages)
+	all, err := together(messages)
 	if err != nil {
 		return nil, err
 	}
-	defer given.wipe()
-	s.lock.Lock()
-	defer s.lock.Unlock()
-	frames, failed := make([]byte, given.room), C.size_t(len(messages))
-	var sizes [MostMessages]C.size_t
-	err = checked(C.seal_many(&s.raw, at(given.userData), &given.lens[0], &given.times[0], at(given.confounders),
-		C.size_t(len(messages)), at(frames), C.size_t(len(frames)), &sizes[0], &failed))
-	if err != nil {
-		index := int(failed)
+	defer all.wipe()
+	lock.Lock()
+	defer lock.Unlock()
+	if err := checked(call(all)); err != nil {
+		index := int(all.failed)
 		if index == len(messages) {
 			index = -1
 		}
 		return nil, &ManyError{index, err}
 	}
-	made := make([][]byte, len(messages))
+	made, rest := make([][]byte, len(messages)), all.frames
 	for i := range made {
-		made[i], frames = frames[:sizes[i]:sizes[i]], frames[sizes[i]:]
+		made[i], rest = rest[:all.sizes[i]:all.sizes[i]], rest[all.sizes[i]:]
 	}
 	return made, nil
 }
 
-// several is what messages are sealed from, as C is given it.
+// several is what messages are sealed from, as C is given it, and what it writes.
 type several struct {
 	userData, confounders []byte
 	lens                  []C.size_t
 	times                 []C.struct_krbrelay_moment
-	room                  int
+	frames                []byte
+	sizes                 [MostMessages]C.size_t
+	failed                C.size_t
 }
 
 // together puts messages one after the other.
-func together(messages []Message) (several, error) {
-	var all several
-	size := 0
+func together(messages []Message) (*several, error) {
+	all, size, room := &several{failed: C.size_t(len(messages))}, 0, 0
 	for _, it := range messages {
 		size += len(it.UserData)
+		room += roomOfFrame(len(it.UserData))
 	}
-	all.userData = make([]byte, 0, size)
+	all.userData, all.frames = make([]byte, 0, size), make([]byte, room)
 	for i, it := range messages {
 		now, err := moment(it.Time)
 		if err != nil {
-			return all, &ManyError{i, err}
+			return nil, &ManyError{i, err}
 		}
 		all.userData = append(all.userData, it.UserData...)
 		all.confounders = append(all.confounders, it.Confounder[:]...)
 		all.lens = append(all.lens, C.size_t(len(it.UserData)))
 		all.times = append(all.times, now)
-		all.room += roomOfFrame(len(it.UserData))
 	}
 	return all, nil
 }

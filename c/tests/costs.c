@@ -123,6 +123,11 @@ static enum krbrelay_answer peer_seal(void)
     return krbrelay_peer_seal(&peer, data, data_len, &now, confounder, out, FRAME, &told);
 }
 
+static enum krbrelay_answer peer_seal_many(void)
+{
+    return krbrelay_peer_seal_many(&peer, many, MANY, out, sizeof out, sizes, &told);
+}
+
 static enum krbrelay_answer peer_open(void)
 {
     struct krbrelay_carried carried;
@@ -140,6 +145,7 @@ static const struct call { const char *name; enum krbrelay_answer (*made)(void);
     { "receiver_new", new_receiver, 1, 0 }, { "peer_new", new_peer, 1, 0 },
     { "sealer_seal", seal, 0, 0 }, { "sealer_seal_record", seal_record, 0, 0 },
     { "sealer_seal_many", seal_many, 0, 0 }, { "sealer_frame_size", frame_size, 0, 0 }, { "peer_seal", peer_seal, 0, 0 },
+    { "peer_seal_many", peer_seal_many, 0, 0 },
     { "opener_unseal", unseal, 0, 1 }, { "opener_open", open_it, 0, 1 }, { "receiver_take", take, 0, 1 },
     { "peer_open", peer_open, 0, 1 }, { "message_header", header, 0, 1 },
 };
@@ -181,7 +187,7 @@ static void measure(const struct call *call, const char *what)
     CALLGRIND_TOGGLE_COLLECT;
     snprintf(line, sizeof line, "%s|%s|%u|%d|%zu|%u|%zu|%zu|%zu|%zu", call->name, what, mode, (int)etype, data_len,
              (unsigned)answer, asked.times, asked.bytes, asked.largest,
-             call->made == seal_many ? MANY * frame_len : frame_len);
+             call->made == seal_many || call->made == peer_seal_many ? MANY * frame_len : frame_len);
     CALLGRIND_DUMP_STATS_AT(line);
     puts(line);
     end_all();

@@ -110,7 +110,23 @@ static void use_receiver(void)
     krbrelay_receiver_free(&r);
 }
 
-/* A peer that seals, is offered its own message and the other end's, and goes on from an export. */
+/* Messages that are sealed in one call: eight side by side, four, and one. */
+enum { MANY = 13 };
+
+static struct krbrelay_unsealed many[MANY];
+static uint8_t many_frames[MANY * ROOM];
+static size_t many_sizes[KRBRELAY_MOST_MESSAGES], many_failed;
+
+static void make_many(void)
+{
+    for (int i = 0; i < MANY; i++) {
+        many[i] = (struct krbrelay_unsealed){ .user_data = data, .user_data_len = SIZE, .at = now };
+        memcpy(many[i].confounder, confounder, sizeof confounder);
+    }
+}
+
+/* A peer that seals, also several messages in one call, is offered its own message and the other end's, and goes on
+ * from an export. */
 static void use_peer(void)
 {
     static uint8_t other[ROOM];
@@ -124,6 +140,8 @@ static void use_peer(void)
     session.first = 3;
     demand.number = 7;
     CHECK(krbrelay_peer_new(&p, use.etype, key, key_size(use.etype), &session, &demand) == KRBRELAY_OK);
+    CHECK(krbrelay_peer_seal_many(&p, many, MANY, many_frames, sizeof many_frames, many_sizes, &many_failed)
+          == KRBRELAY_OK);
     CHECK(krbrelay_peer_seal_now(&p, data, SIZE, other, ROOM, &n) == KRBRELAY_OK);
     CHECK(krbrelay_peer_seal(&p, data, SIZE, &now, confounder, other, ROOM, &n) == KRBRELAY_OK);
     CHECK(krbrelay_peer_open(&p, other, n, &now, text, ROOM, &size, &carried) == KRBRELAY_BADORDER);
@@ -153,6 +171,8 @@ static void use_others(void)
     CHECK(krbrelay_sealer_set_mode(&s, use.mode) == KRBRELAY_OK);
     CHECK(krbrelay_sealer_frame_size(&s, SIZE, &now, &n) == KRBRELAY_OK);
     CHECK(krbrelay_sealer_seal_record_now(&s, KRBRELAY_TEXT, data, SIZE, other, ROOM, &size)
+          == KRBRELAY_OK);
+    CHECK(krbrelay_sealer_seal_many(&s, many, MANY, many_frames, sizeof many_frames, many_sizes, &many_failed)
           == KRBRELAY_OK);
     CHECK(krbrelay_opener_new(&o, use.etype, key, key_size(use.etype), &expect) == KRBRELAY_OK);
     CHECK(krbrelay_message_header(frame, frame_size, &header) == KRBRELAY_OK);
@@ -258,6 +278,7 @@ int main(int argc, char **argv)
     for (int i = 0; i < 32; i++)
         key[i] = (uint8_t)(0xa0 + i * 5);
     data[0] = 'D';                      /* the first byte of a record that is a text */
+    make_many();
     stack = mmap(NULL, STACK, PROT_READ | PROT_WRITE, MAP_PRIVATE | MAP_ANONYMOUS, -1, 0);
     if (stack == MAP_FAILED)
         return 1;

@@ -1,5 +1,5 @@
 /* Peers, and krbrelay_receiver_take_numbered: two ends of a session in both directions, what a refusal
- * by its number tells, exports, and the order of the reasons. */
+ * by its number tells, exports, several messages in one call, and the order of the reasons. */
 #include "check.h"
 #include "frames.h"
 #include "krbrelay.h"
@@ -9,13 +9,13 @@
 #include <string.h>
 
 enum end { CLIENT, SERVER };
-enum { ROOM = 4096 };
+enum { ROOM = 4096, MOST = KRBRELAY_MOST_MESSAGES };
 
 #define NONE_LEFT UINT64_C(4294967296)
 
 static const uint8_t zeros[16];
 static const struct krbrelay_moment now = { SECS, USEC, 0 };
-static uint8_t keys[2][32], text[ROOM];
+static uint8_t keys[2][32], text[ROOM], some_data[ROOM];
 
 static const uint8_t *key_of(int etype) { return keys[etype - 17]; }
 
@@ -488,6 +488,141 @@ static void reasons_of_sealing(void)
     krbrelay_peer_free(&peer);
 }
 
+/* ---- several messages in one call */
+
+/* So many messages of rising size, each with a moment and a confounder of its own. */
+static void make_messages(struct krbrelay_unsealed *messages, size_t count)
+{
+    for (size_t i = 0; i < count; i++) {
+        messages[i] = (struct krbrelay_unsealed){ .user_data = some_data + i, .user_data_len = 37 * i,
+                                                  .at = moment(SECS + i, (uint32_t)i) };
+        memset(messages[i].confounder, (int)i + 1, sizeof messages[i].confounder);
+    }
+}
+
+static struct message sealed_of(struct krbrelay_peer *by, const struct krbrelay_unsealed *it)
+{
+    struct message made = { { 0 }, 0 };
+    CHECK(krbrelay_peer_seal(by, it->user_data, it->user_data_len, &it->at, it->confounder, made.frame, ROOM,
+                             &made.size) == KRBRELAY_OK);
+    return made;
+}
+
+/* Sealed in one call they are the frames that another peer seals one by one, and the other end opens them in turn.
+ * What this end expects stays, and so does what follows the frames and the sizes. */
+static void sealed_together(int etype, uint32_t mode, size_t count)
+{
+    static uint8_t packed[MOST * ROOM];
+    struct krbrelay_unsealed messages[MOST];
+    struct krbrelay_peer many = peer_at(etype, mode, CLIENT, 7, 9), single = peer_at(etype, mode, CLIENT, 7, 9);
+    struct krbrelay_peer server = peer_at(etype, mode, SERVER, 9, 7);
+    size_t sizes[MOST], unwritten, at = 0, failed = 99;
+    make_messages(messages, count);
+    memset(&unwritten, 0xee, sizeof unwritten);
+    memset(sizes, 0xee, sizeof sizes);
+    memset(packed, 0xee, sizeof packed);
+    CHECK(krbrelay_peer_seal_many(&many, messages, count, packed, sizeof packed, sizes, &failed) == KRBRELAY_OK);
+    CHECK(failed == 99 && is_at(&many, 7 + count, 9));
+    for (size_t i = 0; i < count; i++) {
+        struct message it = sealed_of(&single, &messages[i]);
+        CHECK(sizes[i] == it.size && memcmp(packed + at, it.frame, it.size) == 0);
+        CHECK(opened(&server, &it).answer == KRBRELAY_OK && memcmp(text, some_data + i, 37 * i) == 0);
+        at += it.size;
+    }
+    CHECK(packed[at] == 0xee && (count == MOST || sizes[count] == unwritten));
+    CHECK(is_at(&single, 7 + count, 9) && is_at(&server, 9, 7 + count));
+    krbrelay_peer_free(&many);
+    krbrelay_peer_free(&single);
+    krbrelay_peer_free(&server);
+}
+
+/* Eight at a time, four, and one by one. */
+static void several_messages(int etype, uint32_t mode)
+{
+    static const size_t counts[] = { 0, 1, 2, 3, 4, 5, 7, 8, 9, 12, 13, 15, 16, 17, 24, 31, 63, MOST };
+    for (size_t i = 0; i < sizeof counts / sizeof counts[0]; i++)
+        sealed_together(etype, mode, counts[i]);
+}
+
+/* One call seals the last two numbers, after which none is left; of three it seals none. */
+static void last_numbers_of_several(int etype, uint32_t mode)
+{
+    static uint8_t frames[3 * ROOM];
+    struct krbrelay_peer peer = peer_at(etype, mode, CLIENT, UINT32_MAX - 1, 9);
+    struct krbrelay_unsealed messages[3];
+    size_t sizes[MOST] = { 99 }, failed = 99;
+    make_messages(messages, 3);
+    CHECK(krbrelay_peer_seal_many(&peer, messages, 3, frames, sizeof frames, sizes, &failed) == KRBRELAY_EXHAUSTED);
+    CHECK(failed == 2 && sizes[0] == 99 && is_at(&peer, UINT32_MAX - 1, 9));
+    CHECK(krbrelay_peer_seal_many(&peer, messages, 2, frames, sizeof frames, sizes, &failed) == KRBRELAY_OK);
+    CHECK(failed == 2 && is_at(&peer, NONE_LEFT, 9));
+    CHECK(krbrelay_peer_seal_many(&peer, messages, 1, frames, sizeof frames, sizes, &failed) == KRBRELAY_EXHAUSTED);
+    CHECK(failed == 0 && is_at(&peer, NONE_LEFT, 9));
+    failed = 99;
+    CHECK(krbrelay_peer_seal_many(&peer, NULL, 0, NULL, 0, sizes, &failed) == KRBRELAY_OK);
+    CHECK(failed == 99 && is_at(&peer, NONE_LEFT, 9));
+    krbrelay_peer_free(&peer);
+}
+
+/* Three messages of which the second is as a row says: each reason, in their order, and the index of that message. */
+static void reasons_of_sealing_several(void)
+{
+    static uint8_t data[KRBRELAY_USER_DATA_LIMIT + 1], frames[3 * ROOM];
+    struct krbrelay_peer last = peer_at(17, KRBRELAY_PRIV, CLIENT, UINT32_MAX, 0), empty = KRBRELAY_INIT;
+    struct krbrelay_peer peer = peer_at(17, KRBRELAY_PRIV, CLIENT, 7, 0);
+    struct krbrelay_peer single = peer_at(17, KRBRELAY_PRIV, CLIENT, 7, 0);
+    struct krbrelay_unsealed messages[3];
+    struct { struct krbrelay_peer *peer; struct krbrelay_moment at; size_t len, less;
+             enum krbrelay_answer answer; size_t failed; } rows[] = {
+        { &empty, { SECS, 1000000, 1 }, sizeof data, 1, KRBRELAY_EMPTY, 99 },
+        { &last, { SECS, 1000000, 1 }, sizeof data, 1, KRBRELAY_ARGUMENT, 1 },
+        { &last, { SECS, 1000000, 0 }, sizeof data, 1, KRBRELAY_MOMENT, 1 },
+        { &last, { SECS, 0, 0 }, sizeof data, 1, KRBRELAY_TOO_LONG, 1 },
+        { &last, { SECS, 0, 0 }, sizeof data - 1, 1, KRBRELAY_EXHAUSTED, 1 },
+        { &peer, { SECS, 0, 0 }, 2, 1, KRBRELAY_ROOM, 99 },
+        { &peer, { SECS, 0, 0 }, 2, 0, KRBRELAY_OK, 99 },
+    };
+    size_t room = 0;
+    make_messages(messages, 3);
+    messages[1].user_data = data;
+    messages[1].user_data_len = 2;
+    messages[1].at = (struct krbrelay_moment){ SECS, 0, 0 };
+    room += sealed_of(&single, &messages[0]).size;
+    room += sealed_of(&single, &messages[1]).size;
+    room += sealed_of(&single, &messages[2]).size;
+    for (size_t i = 0; i < sizeof rows / sizeof rows[0]; i++) {
+        size_t sizes[MOST] = { 99 }, failed = 99;
+        messages[1].user_data_len = rows[i].len;
+        messages[1].at = rows[i].at;
+        frames[0] = 0xee;
+        CHECK(krbrelay_peer_seal_many(rows[i].peer, messages, 3, frames, room - rows[i].less, sizes, &failed)
+              == rows[i].answer && failed == rows[i].failed);
+        CHECK((sizes[0] == 99 && frames[0] == 0xee) == (rows[i].answer != KRBRELAY_OK));
+    }
+    CHECK(is_at(&last, UINT32_MAX, 0) && is_at(&peer, 10, 0));
+    krbrelay_peer_free(&last);
+    krbrelay_peer_free(&peer);
+    krbrelay_peer_free(&single);
+}
+
+/* Over 64 messages are refused before all else, also where the handle holds nothing. */
+static void too_many_messages(void)
+{
+    static uint8_t frames[ROOM];
+    struct krbrelay_unsealed messages[MOST + 1];
+    struct krbrelay_peer peers[] = { peer_at(18, KRBRELAY_SAFE, CLIENT, 7, 9), KRBRELAY_INIT };
+    make_messages(messages, MOST + 1);
+    messages[0].at.microseconds = 1000000;
+    for (size_t i = 0; i < 2; i++) {
+        size_t sizes[MOST] = { 99 }, failed = 99;
+        CHECK(krbrelay_peer_seal_many(&peers[i], messages, MOST + 1, frames, sizeof frames, sizes, &failed)
+              == KRBRELAY_ARGUMENT);
+        CHECK(failed == 99 && sizes[0] == 99 && frames[0] == 0);
+    }
+    CHECK(is_at(&peers[0], 7, 9) && krbrelay_peer_is_empty(&peers[1]));
+    krbrelay_peer_free(&peers[0]);
+}
+
 /* Opening: the reflected message of another number, late, and so on. */
 static void reasons_of_opening(void)
 {
@@ -638,6 +773,8 @@ int main(int count, char **words)
     for (int i = 0; i < 16; i++)
         keys[0][i] = (uint8_t)i;
     memset(keys[1], 0x11, 32);
+    for (size_t i = 0; i < sizeof some_data; i++)
+        some_data[i] = (uint8_t)(i * 11);
     for (int etype = 17; etype <= 18; etype++)
         for (uint32_t mode = KRBRELAY_SAFE; mode <= KRBRELAY_PRIV; mode++) {
             RUN(both_directions(etype, mode));
@@ -647,6 +784,8 @@ int main(int count, char **words)
             RUN(reflection(etype, mode));
             RUN(going_on(etype, mode));
             RUN(last_numbers(etype, mode));
+            RUN(several_messages(etype, mode));
+            RUN(last_numbers_of_several(etype, mode));
             RUN(numbers_that_came(etype, mode));
         }
     RUN(times());
@@ -656,6 +795,8 @@ int main(int count, char **words)
     RUN(reasons_of_makers());
     RUN(demands_that_are_none());
     RUN(reasons_of_sealing());
+    RUN(reasons_of_sealing_several());
+    RUN(too_many_messages());
     RUN(reasons_of_opening());
     RUN(nothing_held());
     RUN(handles_that_move());

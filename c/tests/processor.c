@@ -109,6 +109,7 @@ static void empty_handles(void)
     CHECK(krbrelay_peer_state(&p, &number, &number) == KRBRELAY_EMPTY);
     CHECK(krbrelay_peer_export(&p, text) == KRBRELAY_EMPTY);
     CHECK(krbrelay_sealer_seal_many(&s, &message, 1, frame, sizeof frame, sizes, &failed) == KRBRELAY_EMPTY);
+    CHECK(krbrelay_peer_seal_many(&p, &message, 1, frame, sizeof frame, sizes, &failed) == KRBRELAY_EMPTY);
     CHECK(size == 99 && number == 99 && kind == 99 && failed == 99);
     krbrelay_sealer_wipe(&s);
     krbrelay_opener_wipe(&o);

@@ -249,6 +249,32 @@ static void take_in_each_way(int etype)
     krbrelay_receiver_free(&r);
 }
 
+/* Several messages in one call, eight side by side, four and one, by a sealer and by a peer: sealed, and refused
+ * for their room once they are made. */
+static void seal_several_in_each_way(int etype)
+{
+    enum { COUNT = 13 };
+    static uint8_t frames[COUNT * ROOM];
+    struct krbrelay_session session = session_of(KRBRELAY_PRIV, 7);
+    struct krbrelay_unsealed messages[COUNT];
+    struct krbrelay_sealer s = { 0 };
+    struct krbrelay_peer p = { 0 };
+    size_t sizes[KRBRELAY_MOST_MESSAGES], failed = 99;
+    for (size_t i = 0; i < COUNT; i++) {
+        messages[i] = (struct krbrelay_unsealed){ .user_data = user_data, .user_data_len = SIZE, .at = now };
+        memcpy(messages[i].confounder, confounder, sizeof confounder);
+    }
+    CHECK(krbrelay_sealer_new(&s, etype, key, key_size(etype), &session) == KRBRELAY_OK);
+    CHECK(peer_of(&p, etype, key, KRBRELAY_PRIV, 1) == KRBRELAY_OK);
+    CHECK(krbrelay_sealer_seal_many(&s, messages, COUNT, frames, COUNT * SIZE, sizes, &failed) == KRBRELAY_ROOM);
+    CHECK(krbrelay_sealer_seal_many(&s, messages, COUNT, frames, sizeof frames, sizes, &failed) == 0);
+    CHECK(krbrelay_peer_seal_many(&p, messages, COUNT, frames, COUNT * SIZE, sizes, &failed) == KRBRELAY_ROOM);
+    CHECK(krbrelay_peer_seal_many(&p, messages, COUNT, frames, sizeof frames, sizes, &failed) == 0);
+    CHECK(failed == 99);
+    krbrelay_sealer_free(&s);
+    krbrelay_peer_free(&p);
+}
+
 /* Peers: opened, and refused after it was deciphered, for its number, its time, its address and its
  * room. */
 static void open_by_a_peer_in_each_way(int etype)
@@ -312,6 +338,7 @@ static void end_in_each_way(void)
         unseal_in_each_way(etype);
         open_in_each_way(etype);
         take_in_each_way(etype);
+        seal_several_in_each_way(etype);
         open_by_a_peer_in_each_way(etype);
     }
     CHECK(blocks_freed > 0);

@@ -13,7 +13,7 @@
 #include <string.h>
 #include <sys/socket.h>
 
-enum { HANDLES = 4, FRAMES = 16, LONGEST = 600, DATA = 48, NUMBERS = 512 };
+enum { HANDLES = 4, FRAMES = 16, LONGEST = 600, DATA = 48, NUMBERS = 512, SEVERAL = 13 };
 
 static uint64_t state;
 static uint8_t keys[2][32];
@@ -289,6 +289,70 @@ static void seal_now(size_t i)
         answered(krbrelay_sealer_seal_now(&sealers[i].h, (const uint8_t *)"hi", 2, frame, sizeof frame,
                                           &size), expected, "krbrelay_sealer_seal_now");
     sealers[i].m.number += expected == KRBRELAY_OK;
+}
+
+/* ---- several messages in one call */
+
+static struct {
+    struct krbrelay_unsealed all[KRBRELAY_MOST_MESSAGES + 1];
+    size_t count, room, sizes[KRBRELAY_MOST_MESSAGES], failed;
+    uint8_t frames[SEVERAL * LONGEST];
+} several;
+
+/* Up to 13 of them, or too many. Each may be none that can be sealed; there is room for all, or for none. */
+static void draw_several(void)
+{
+    static uint8_t data[KRBRELAY_USER_DATA_LIMIT + 1 + KRBRELAY_MOST_MESSAGES + 1];
+    several.count = one_in(20) ? KRBRELAY_MOST_MESSAGES + 1 : draw(SEVERAL + 1);
+    several.room = one_in(9) ? draw(20) : sizeof several.frames;
+    several.failed = 777;
+    for (size_t k = 0; k < several.count; k++) {
+        size_t len = one_in(200) ? KRBRELAY_USER_DATA_LIMIT + 1 : draw(DATA);
+        data[k] = (uint8_t)('a' + draw(26));        /* no record begins so */
+        several.all[k] = (struct krbrelay_unsealed){ .user_data = data + draw(k + 1), .user_data_len = len,
+                                                     .at = some_moment(), .confounder = { (uint8_t)draw(256) } };
+    }
+}
+
+/* What sealing them answers: the answer of the first message that can't be sealed, and its index. */
+static enum krbrelay_answer of_several(const struct held *m, size_t *failed)
+{
+    enum krbrelay_answer answer = FIRST_OF(UNLESS(several.count <= KRBRELAY_MOST_MESSAGES, KRBRELAY_ARGUMENT),
+                                           UNLESS(m->life != NOTHING, KRBRELAY_EMPTY));
+    struct held by = *m;
+    for (size_t k = 0; answer == KRBRELAY_OK && k < several.count; k++, by.number++) {
+        answer = of_sealing(&by, several.all[k].user_data_len, &several.all[k].at, 0, 0);
+        if (answer != KRBRELAY_OK)
+            *failed = k;
+    }
+    return FIRST_OF(answer, UNLESS(several.count == 0 || several.room == sizeof several.frames, KRBRELAY_ROOM));
+}
+
+/* Copies one that was sealed, whose frame stands at this place. Answers where the next one stands. */
+static size_t copy_one(struct sealed *f, size_t k, size_t place)
+{
+    const struct krbrelay_unsealed *it = &several.all[k];
+    HOLDS(several.sizes[k] > 0 && several.sizes[k] <= LONGEST);
+    f->size = several.sizes[k];
+    memcpy(f->frame, several.frames + place, f->size);
+    memcpy(f->user, it->user_data, it->user_data_len);
+    return place + f->size;
+}
+
+static void seal_several(size_t i)
+{
+    size_t failed = 777, place = 0;
+    enum krbrelay_answer expected;
+    draw_several();
+    expected = of_several(&sealers[i].m, &failed);
+    answered(krbrelay_sealer_seal_many(&sealers[i].h, several.all, several.count, several.frames, several.room,
+                                       several.sizes, &several.failed), expected, "krbrelay_sealer_seal_many");
+    HOLDS(several.failed == failed);
+    for (size_t k = 0; expected == KRBRELAY_OK && k < several.count; k++) {
+        struct sealed *f = &frames[made % FRAMES];
+        place = copy_one(f, k, place);
+        keep(f, i, &several.all[k].at, 0, several.all[k].user_data_len);
+    }
 }
 
 static void ask_sealer(size_t i)
@@ -696,6 +760,28 @@ static void seal_by_peer(size_t i, size_t end)
     sent[i]++;
 }
 
+static void seal_several_by_peer(size_t i, size_t end)
+{
+    struct peer *it = &peers[i][end];
+    size_t failed = 777, place = 0;
+    enum krbrelay_answer expected;
+    draw_several();
+    expected = of_several(&it->m, &failed);
+    answered(krbrelay_peer_seal_many(&it->h, several.all, several.count, several.frames, several.room, several.sizes,
+                                     &several.failed), expected, "krbrelay_peer_seal_many");
+    HOLDS(several.failed == failed);
+    for (size_t k = 0; expected == KRBRELAY_OK && k < several.count; k++) {
+        struct sealed *f = &messages[i][sent[i] % KEPT];
+        place = copy_one(f, k, place);
+        f->len = several.all[k].user_data_len;
+        f->by = it->m;
+        f->at = several.all[k].at;
+        f->kind = (uint32_t)end;
+        it->m.number++;
+        sent[i]++;
+    }
+}
+
 /* Any message of the pair, its own too. */
 static void open_by_peer(size_t i, size_t end)
 {
@@ -782,11 +868,12 @@ static void end_peer(size_t i, size_t end)
 static void peer(size_t i)
 {
     size_t end = draw(ENDS);
-    switch (draw(20)) {
+    switch (draw(21)) {
     case 0: case 1: make_peer(i, end); break;
     case 2: case 3: case 4: case 5: case 6: case 7: seal_by_peer(i, end); break;
     case 8: case 9: resume_peer(i, end); break;
     case 10: if (one_in(4)) end_peer(i, end); break;
+    case 11: seal_several_by_peer(i, end); break;
     default: if (sent[i] > 0) open_by_peer(i, end); break;
     }
 }
@@ -906,7 +993,7 @@ static void header(void)
 static void step(void)
 {
     size_t i = draw(HANDLES);
-    switch (draw(made == 0 ? 4 : 36)) {
+    switch (draw(made == 0 ? 4 : 37)) {
     case 0: make_sealer(i); break;
     case 1: case 2: case 4: seal(i); break;
     case 3: case 5: case 6: seal_record(i); break;
@@ -925,6 +1012,7 @@ static void step(void)
     case 27: name_answers(); break;
     case 28: if (one_in(50)) ask_system(); break;
     case 29: header(); break;
+    case 30: seal_several(i); break;
     default: peer(i); break;
     }
 }

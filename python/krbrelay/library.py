@@ -231,6 +231,8 @@ CALLS: Dict[str, Tuple[Any, List[Any]]] = {
     "krbrelay_peer_resume":
         (c_uint32, [_HANDLE, *_KEY, POINTER(SessionStruct), POINTER(DemandStruct), _STATE]),
     "krbrelay_peer_seal": (c_uint32, [_HANDLE, *_BYTES, _AT, c_char_p, *_KEPT]),
+    "krbrelay_peer_seal_many":
+        (c_uint32, [_HANDLE, POINTER(UnsealedStruct), c_size_t, *_ROOM, _SIZE, _SIZE]),
     "krbrelay_peer_open":
         (c_uint32, [_HANDLE, *_BYTES, _MOMENT, *_ROOM, _SIZE, POINTER(CarriedStruct)]),
     "krbrelay_peer_state": (c_uint32, [_HANDLE, POINTER(c_uint64), POINTER(c_uint64)]),

@@ -44,7 +44,8 @@ class Kept:
 
 
 class SealingHandle(Handle):
-    """A handle that seals, with room for messages that it keeps between its calls."""
+    """A handle that seals, with room for messages that it keeps between its calls, and several in
+    one call."""
 
     _draws: bool                    # a confounder for each message
 
@@ -70,6 +71,37 @@ class SealingHandle(Handle):
             if answer:
                 raise exception_of(answer)
             return kept.view[:kept.size.value].tobytes()
+
+    def seal_many(self, messages: Sequence[Bytes], at: Optional[Moment] = None) -> List[bytes]:
+        """The messages of 64 user data at most, as so many calls of `seal` make them one after
+        another, at one moment and each under a confounder of its own: quicker, since the library
+        seals eight side by side. All are sealed or none: the exception is that of the first that
+        can't be, and says which."""
+        contents = [bytes_of("the user data", it) for it in messages]
+        if len(contents) > MOST_MESSAGES:
+            raise ValueError(f"{len(contents)} messages: a call seals {MOST_MESSAGES} at most")
+        micros = time_ns() // 1000 if at is None else ranged("the moment", micros_of(at), 0, MOST)
+        if os.getpid() != self._process:
+            raise RuntimeError(OF_A_PARENT)
+        with self._lock:
+            return self._sealed_many(contents, MomentStruct(*divmod(micros, 1_000_000)))
+
+    def _sealed_many(self, contents: List[bytes], moment: MomentStruct) -> List[bytes]:
+        drawn = os.urandom if self._draws else bytes
+        unsealed = (UnsealedStruct * MOST_MESSAGES)()
+        for place, content in zip(unsealed, contents):
+            place.user_data, place.user_data_len, place.at = content, len(content), moment
+            place.confounder[:] = drawn(CONFOUNDER_SIZE)
+        room = sum(self._library.krbrelay_frame_size(len(it)) for it in contents)
+        buffer, sizes = (c_uint8 * room)(), (c_size_t * MOST_MESSAGES)()
+        failed = c_size_t(MOST_MESSAGES)
+        answer = self._function("seal_many")(self._place, unsealed, len(contents), buffer, room,
+                                             sizes, failed)
+        if answer:
+            is_one = failed.value < len(contents)
+            raise exception_of(answer, f"message {failed.value}: " if is_one else "")
+        view, ends = memoryview(buffer).cast("B"), [0, *accumulate(sizes[:len(contents)])]
+        return [view[begin:end].tobytes() for begin, end in zip(ends, ends[1:])]
 
 
 class Sealer(SealingHandle):
@@ -104,37 +136,6 @@ class Sealer(SealingHandle):
         """
         content = bytes_of("the user data", user_data)
         return self._sealed(self._seal, len(content), content, at, confounder)
-
-    def seal_many(self, messages: Sequence[Bytes], at: Optional[Moment] = None) -> List[bytes]:
-        """The messages of 64 user data at most, as so many calls of `seal` make them one after
-        another, at one moment and each under a confounder of its own: quicker, since the library
-        seals eight side by side. All are sealed or none: the exception is that of the first that
-        can't be, and says which."""
-        contents = [bytes_of("the user data", it) for it in messages]
-        if len(contents) > MOST_MESSAGES:
-            raise ValueError(f"{len(contents)} messages: a call seals {MOST_MESSAGES} at most")
-        micros = time_ns() // 1000 if at is None else ranged("the moment", micros_of(at), 0, MOST)
-        if os.getpid() != self._process:
-            raise RuntimeError(OF_A_PARENT)
-        with self._lock:
-            return self._sealed_many(contents, MomentStruct(*divmod(micros, 1_000_000)))
-
-    def _sealed_many(self, contents: List[bytes], moment: MomentStruct) -> List[bytes]:
-        drawn = os.urandom if self._draws else bytes
-        unsealed = (UnsealedStruct * MOST_MESSAGES)()
-        for place, content in zip(unsealed, contents):
-            place.user_data, place.user_data_len, place.at = content, len(content), moment
-            place.confounder[:] = drawn(CONFOUNDER_SIZE)
-        room = sum(self._library.krbrelay_frame_size(len(it)) for it in contents)
-        buffer, sizes = (c_uint8 * room)(), (c_size_t * MOST_MESSAGES)()
-        failed = c_size_t(MOST_MESSAGES)
-        answer = self._function("seal_many")(self._place, unsealed, len(contents), buffer, room,
-                                             sizes, failed)
-        if answer:
-            is_one = failed.value < len(contents)
-            raise exception_of(answer, f"message {failed.value}: " if is_one else "")
-        view, ends = memoryview(buffer).cast("B"), [0, *accumulate(sizes[:len(contents)])]
-        return [view[begin:end].tobytes() for begin, end in zip(ends, ends[1:])]
 
     def seal_record(self, record: Record, at: Optional[Moment] = None,
                     confounder: Optional[Bytes] = None) -> bytes:

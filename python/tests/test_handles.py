@@ -22,12 +22,12 @@ def calls_of(handle):
     """Each call that works on keys, by one that is made."""
     if isinstance(handle, Sealer):
         return [lambda: handle.seal(b""), lambda: handle.seal_record(Closed()),
-                lambda: handle.next, lambda: handle.set_mode(Mode.SAFE)]
+                lambda: handle.seal_many([b""]), lambda: handle.next, lambda: handle.set_mode(Mode.SAFE)]
     if isinstance(handle, krbrelay.Opener):
         return [lambda: handle.unseal(FRAME, 7, MICROS), lambda: handle.open(FRAME)]
     if isinstance(handle, krbrelay.Peer):
         return [lambda: handle.open(FRAME, MICROS), lambda: handle.seal(b""),
-                lambda: handle.numbers, handle.export]
+                lambda: handle.seal_many([b""]), lambda: handle.numbers, handle.export]
     return [lambda: handle.take(FRAME, MICROS), lambda: handle.state]
 
 

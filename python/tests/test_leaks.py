@@ -59,6 +59,8 @@ class Leaks(unittest.TestCase):
                     assert far.open(frame, MICROS).number + 1 == far.numbers.expected
                     assert outcome(far.open, frame, MICROS) == Code.BADORDER
                     far.export()
+                for _ in range(count // 30):
+                    assert len(far.seal_many([bytes(600)] * 9, MICROS)) == 9
             self.assert_still(work)
 
     def test_refusals(self):

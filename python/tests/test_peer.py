@@ -1,5 +1,6 @@
-"""A peer in both directions, beside the independent sealer, and what it exports."""
+"""A peer in both directions and several messages in one call, beside the independent sealer, and its exports."""
 import unittest
+from unittest import mock
 
 from support import (
     CONFOUNDER, KEYS, KINDS, MICROS, OTHER, PAIRS, RECEIVER, SENDER, frame_of, frames, outcome,
@@ -78,6 +79,48 @@ class Directions(unittest.TestCase):
         for key, mode in KINDS:
             with peer_of(key, mode) as peer:
                 self.assertEqual(outcome(peer.open, peer.seal(b"hi", MICROS), MICROS), Code.BADADDR)
+
+
+class Several(unittest.TestCase):
+    """Messages that are sealed in one call."""
+
+    def test_they_are_of_the_independent_sealer(self):
+        """Each at its own number, and of KRB-PRIV under a confounder that is drawn for it."""
+        drawn = [bytes([at]) * 16 for at in range(64)]
+        for key, mode in KINDS:
+            for count in (0, 1, 3, 4, 8, 13, 64):
+                texts = [bytes(at % 251 for at in range(29 * it)) for it in range(count)]
+                bodies = [frames.body(it, MICROS, number, PAIRS[RECEIVER], PAIRS[SENDER])
+                          for number, it in enumerate(texts, 7)]
+                with peer_of(key, mode, 7, 9, receiver=SENDER) as peer, \
+                        mock.patch("os.urandom", side_effect=drawn) as urandom:
+                    self.assertEqual(peer.seal_many(texts, MICROS),
+                                     [sealed(key, mode, *it) for it in zip(bodies, drawn)])
+                    self.assertEqual(peer.numbers, Numbers(7 + count, 9))
+                self.assertEqual(urandom.call_args_list,
+                                 [mock.call(16)] * (count if mode is Mode.PRIV else 0))
+
+    def test_the_other_end_opens_them(self):
+        for key, mode in KINDS:
+            with peer_of(key, mode, 7, 9) as near, \
+                    peer_of(key, mode, 9, 7, here=SENDER, there=RECEIVER) as far:
+                texts = [b"text %d" % it for it in range(13)]
+                self.assertEqual([far.open(it).user_data for it in near.seal_many(texts)], texts)
+                self.assertEqual(far.numbers, Numbers(9, 20))
+
+    def test_none_is_sealed_if_one_cannot_be(self):
+        with peer_of(KEYS[0], Mode.PRIV, 2**32 - 2) as peer:
+            with self.assertRaisesRegex(krbrelay.Exhausted, "message 2: no sequence number"):
+                peer.seal_many([b"a", b"b", b"c"])
+            with self.assertRaisesRegex(ValueError, "message 1: .* longer"):
+                peer.seal_many([b"a", bytes(krbrelay.USER_DATA_LIMIT + 1)])
+            with self.assertRaisesRegex(ValueError, "65 messages: a call seals 64 at most"):
+                peer.seal_many([b""] * 65)
+            self.assertEqual(peer.numbers, Numbers(2**32 - 2, 7))
+            self.assertEqual(len(peer.seal_many([b"a", b"b"])), 2)
+            self.assertEqual(peer.numbers, Numbers(2**32, 7))
+        with self.assertRaises(krbrelay.Freed):
+            peer.seal_many([b"a"])
 
 
 class Exports(unittest.TestCase):

@@ -4,6 +4,7 @@ use alloc::vec::Vec;
 use core::fmt;
 
 use crate::error::Error;
+use crate::sealer::{ManyError, Message};
 use crate::sys::{self, Handle};
 use crate::values::{Body, Carried, Confounder, Demand, Key, Moment, Session};
 use crate::PEER_STATE_SIZE;
@@ -85,6 +86,15 @@ impl Peer {
         confounder: &Confounder,
     ) -> Result<Vec<u8>, Error> {
         sys::peer_seal(&mut self.0, user_data, &at.raw(), confounder)
+    }
+
+    /// The messages that as many calls of [`Peer::seal_at`] make one after another, as
+    /// [`Sealer::seal_many`](crate::Sealer::seal_many) makes them: quicker, and all are sealed or none.
+    ///
+    /// [`Error::Argument`] of more than [`MOST_MESSAGES`](crate::MOST_MESSAGES), or the error of the first that
+    /// can't be sealed, or [`Error::Memory`].
+    pub fn seal_many(&mut self, messages: &[Message<'_>]) -> Result<Vec<Vec<u8>>, ManyError> {
+        sys::peer_seal_many(&mut self.0, messages)
     }
 
     /// [`Peer::open_at`], now. [`Error::Clock`].

@@ -82,7 +82,7 @@ impl Sealer {
     /// [`Error::Argument`] of more than [`MOST_MESSAGES`](crate::MOST_MESSAGES), or the error of the first that
     /// can't be sealed, or [`Error::Memory`].
     pub fn seal_many(&mut self, messages: &[Message<'_>]) -> Result<Vec<Vec<u8>>, ManyError> {
-        sys::seal_many(&mut self.0, messages).map_err(|(index, error)| ManyError { index, error })
+        sys::seal_many(&mut self.0, messages)
     }
 
     /// The message of a record, which a [`Receiver`](crate::Receiver) takes, as [`Sealer::seal`] seals

@@ -12,7 +12,7 @@ use core::ffi::c_void;
 use core::ptr;
 
 use crate::error::Error;
-use crate::sealer::Message;
+use crate::sealer::{ManyError, Message};
 use crate::values::{Confounder, Key};
 use crate::{frame_size, FRAME_LIMIT, HISTORY_SIZE, MOST_MESSAGES, PEER_STATE_SIZE, USER_DATA_LIMIT};
 
@@ -270,6 +270,15 @@ extern "C" {
         room: usize,
         size: *mut usize,
     ) -> u32;
+    fn krbrelay_peer_seal_many(
+        handle: *mut Raw,
+        messages: *const Unsealed,
+        count: usize,
+        frames: *mut u8,
+        room: usize,
+        sizes: *mut usize,
+        failed: *mut usize,
+    ) -> u32;
     fn krbrelay_peer_open(
         handle: *mut Raw,
         frame: *const u8,
@@ -465,29 +474,32 @@ pub(crate) fn seal_record(
     })
 }
 
-/// The frames of messages, or which one failed, if it is one of them, and why.
 pub(crate) fn seal_many(
     sealer: &mut Handle,
     messages: &[Message<'_>],
-) -> Result<Vec<Vec<u8>>, (Option<usize>, Error)> {
+) -> Result<Vec<Vec<u8>>, ManyError> {
+    let handle = sealer.raw.get();
+    sealed_many(messages, |from, to, room, sizes, failed| {
+        // SAFETY: the module's rule; the handle is a sealer's.
+        unsafe { krbrelay_sealer_seal_many(handle, from.as_ptr(), from.len(), to, room, sizes, failed) }
+    })
+}
+
+/// The frames of messages, by a call that is given these, the room for the frames, the places of their sizes,
+/// and that of the index of the first that fails.
+fn sealed_many(
+    messages: &[Message<'_>],
+    call: impl FnOnce(&[Unsealed], *mut u8, usize, *mut usize, *mut usize) -> u32,
+) -> Result<Vec<Vec<u8>>, ManyError> {
     let unsealed: Vec<Unsealed> = messages.iter().map(Unsealed::of).collect();
     let room =
         messages.iter().fold(0usize, |sum, it| sum.saturating_add(room_of_frame(it.user_data.len())));
     let (mut frames, mut sizes, mut failed) = (Vec::new(), [0; MOST_MESSAGES], usize::MAX);
-    frames.try_reserve_exact(room).map_err(|_| (None, Error::Memory))?;
-    // SAFETY: the module's rule; the handle is a sealer's, and the messages are borrowed until the call ends.
-    let answer = unsafe {
-        krbrelay_sealer_seal_many(
-            sealer.raw.get(),
-            unsealed.as_ptr(),
-            unsealed.len(),
-            frames.as_mut_ptr(),
-            room,
-            sizes.as_mut_ptr(),
-            &mut failed,
-        )
-    };
-    checked(answer).map_err(|error| (Some(failed).filter(|it| *it < messages.len()), error))?;
+    let why = |index, error| ManyError { index, error };
+    frames.try_reserve_exact(room).map_err(|_| why(None, Error::Memory))?;
+    let answer = call(&unsealed, frames.as_mut_ptr(), room, sizes.as_mut_ptr(), &mut failed);
+    let index = Some(failed).filter(|it| *it < messages.len());
+    checked(answer).map_err(|error| why(index, error))?;
     let written = sizes.iter().take(messages.len()).sum();
     // SAFETY: it wrote so many bytes.
     unsafe { frames.set_len(written) };
@@ -645,6 +657,17 @@ pub(crate) fn peer_seal_now(peer: &mut Handle, user_data: &[u8]) -> Result<Vec<u
     written(room_of_frame(len), |to, room, size| {
         // SAFETY: the module's rule; the handle is a peer's.
         unsafe { krbrelay_peer_seal_now(handle, from, len, to, room, size) }
+    })
+}
+
+pub(crate) fn peer_seal_many(
+    peer: &mut Handle,
+    messages: &[Message<'_>],
+) -> Result<Vec<Vec<u8>>, ManyError> {
+    let handle = peer.raw.get();
+    sealed_many(messages, |from, to, room, sizes, failed| {
+        // SAFETY: the module's rule; the handle is a peer's.
+        unsafe { krbrelay_peer_seal_many(handle, from.as_ptr(), from.len(), to, room, sizes, failed) }
     })
 }
 

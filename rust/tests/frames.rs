@@ -4,8 +4,8 @@ mod common;
 
 use common::{expect, frames, from, session, AES128, AES256, AT, DRAWN, FIRST, LAST, RECEIVER};
 use krbrelay::{
-    message_header, Batch, Error, Key, ManyError, Message, Mode, Opener, Receiver, Record, Sealer,
-    Session, MOST_MESSAGES,
+    message_header, Batch, Demand, Error, Key, ManyError, Message, Mode, Numbers, Opener, Peer,
+    Receiver, Record, Sealer, Session, MOST_MESSAGES,
 };
 
 type Row = (&'static str, Mode, Key<'static>, u32, Vec<Record>);
@@ -92,19 +92,29 @@ fn sealing_makes_these_frames() {
     }
 }
 
+const KINDS: [(Mode, Key<'static>); 4] =
+    [(Mode::Safe, AES128), (Mode::Priv, AES128), (Mode::Safe, AES256), (Mode::Priv, AES256)];
+/// How many messages are sealed in one call.
+const COUNTS: [usize; 7] = [0, 1, 3, 4, 8, 13, MOST_MESSAGES];
+
+fn user_data() -> Vec<Vec<u8>> {
+    (0..MOST_MESSAGES).map(|it| vec![it as u8; 41 * it]).collect()
+}
+
+fn messages_of(data: &[Vec<u8>]) -> Vec<Message<'_>> {
+    data.iter()
+        .enumerate()
+        .map(|(it, user_data)| Message { user_data, at: AT, confounder: [it as u8; 16] })
+        .collect()
+}
+
 /// Messages of one call are those of as many calls, which the rows above compare with another sealer's.
 #[test]
 fn messages_of_one_call_are_those_of_single_calls() {
-    let data: Vec<Vec<u8>> = (0..MOST_MESSAGES).map(|it| vec![it as u8; 41 * it]).collect();
-    let messages: Vec<Message<'_>> = data
-        .iter()
-        .enumerate()
-        .map(|(it, user_data)| Message { user_data, at: AT, confounder: [it as u8; 16] })
-        .collect();
-    for (mode, key) in
-        [(Mode::Safe, AES128), (Mode::Priv, AES128), (Mode::Safe, AES256), (Mode::Priv, AES256)]
-    {
-        for count in [0, 1, 3, 4, 8, 13, MOST_MESSAGES] {
+    let data = user_data();
+    let messages = messages_of(&data);
+    for (mode, key) in KINDS {
+        for count in COUNTS {
             let (mut single, mut many) = (sealer(key, mode, FIRST), sealer(key, mode, FIRST));
             let wanted: Vec<Vec<u8>> = messages[..count]
                 .iter()
@@ -131,6 +141,47 @@ fn the_first_message_that_fails_is_named() {
     assert_eq!(too_many, ManyError { index: None, error: Error::Argument });
     assert_eq!(last.next(), u64::from(LAST - 1));
     assert_eq!(last.seal_many(&[hi; 2]).unwrap().len(), 2);
+}
+
+fn peer(key: Key<'_>, mode: Mode, first: u32) -> Peer {
+    Peer::new(key, &session(mode, first), &Demand { number: Some(9), ..Demand::of_sender(RECEIVER) })
+        .unwrap()
+}
+
+/// The same of a peer, whose other end opens them; the number that it expects stays.
+#[test]
+fn a_peers_messages_of_one_call_are_those_of_single_calls() {
+    let data = user_data();
+    let messages = messages_of(&data);
+    for (mode, key) in KINDS {
+        for count in COUNTS {
+            let (mut single, mut many) = (peer(key, mode, FIRST), peer(key, mode, FIRST));
+            let demand = Demand { number: Some(FIRST.into()), ..Demand::of_sender(common::SENDER) };
+            let mut other = Peer::new(key, &Session::new(mode, RECEIVER), &demand).unwrap();
+            let made = many.seal_many(&messages[..count]).unwrap();
+            assert_eq!(made.len(), count);
+            for (it, frame) in messages.iter().zip(&made) {
+                assert_eq!(*frame, single.seal_at(it.user_data, it.at, &it.confounder).unwrap());
+                assert_eq!(other.open_at(frame, AT).unwrap().user_data, it.user_data);
+            }
+            let next = u64::from(FIRST) + count as u64;
+            assert_eq!(many.numbers(), Numbers { next, expected: 9 });
+            assert_eq!(single.numbers(), many.numbers());
+        }
+    }
+}
+
+#[test]
+fn the_first_message_of_a_peer_that_fails_is_named() {
+    let hi = Message { user_data: b"hi", at: AT, confounder: [1; 16] };
+    let mut last = peer(AES256, Mode::Priv, LAST - 1);
+    let exhausted = last.seal_many(&[hi; 3]).unwrap_err();
+    assert_eq!(exhausted, ManyError { index: Some(2), error: Error::Exhausted });
+    let too_many = last.seal_many(&[hi; MOST_MESSAGES + 1]).unwrap_err();
+    assert_eq!(too_many, ManyError { index: None, error: Error::Argument });
+    assert_eq!(last.numbers(), Numbers { next: u64::from(LAST - 1), expected: 9 });
+    assert_eq!(last.seal_many(&[hi; 2]).unwrap().len(), 2);
+    assert_eq!(last.numbers(), Numbers { next: u64::from(LAST) + 1, expected: 9 });
 }
 
 /// The user data of a record are a letter and its bytes.

@@ -134,6 +134,8 @@ class Plant:
 PLANTS = (
     Plant("large.c", "krbrelay_receiver_new", "krbrelay_receiver_take", "refuse", "frames of over 512 bytes"),
     Plant("many.c", "krbrelay_sealer_new", "krbrelay_sealer_seal_many", "seal", "many messages in one call"),
+    Plant("many_by_peer.c", "krbrelay_peer_resume", "krbrelay_peer_seal_many", "seal",
+          "many messages of a peer in one call"),
 )
 
 

@@ -54,25 +54,44 @@ static uint32_t sealer_seal_record(void)
                                        confounder, out, given.room, &told.size);
 }
 
+/* Several messages, all alike, and what the calls that seal them tell. */
+static struct { struct krbrelay_unsealed all[KRBRELAY_MOST_MESSAGES]; size_t sizes[KRBRELAY_MOST_MESSAGES], failed; } several;
+
+static void make_several(void)
+{
+    memset(&several, 0, sizeof several);
+    for (unsigned i = 0; i < given.messages; i++) {
+        several.all[i] = (struct krbrelay_unsealed){ given.body, given.body_len, given.at, { 0 } };
+        memcpy(several.all[i].confounder, confounder, sizeof several.all[i].confounder);
+    }
+}
+
+/* Tells the size of the first frame. */
+static uint32_t told_of_several(uint32_t answer)
+{
+    if (answer == KRBRELAY_OK)
+        told.size = several.sizes[0];
+    return answer;
+}
+
 static uint32_t sealer_seal_many(void)
 {
-    struct krbrelay_unsealed messages[KRBRELAY_MOST_MESSAGES];
-    size_t sizes[KRBRELAY_MOST_MESSAGES] = { 0 }, failed = KRBRELAY_MOST_MESSAGES;
-    uint32_t answer;
-    for (unsigned i = 0; i < given.messages; i++) {
-        messages[i] = (struct krbrelay_unsealed){ given.body, given.body_len, given.at, { 0 } };
-        memcpy(messages[i].confounder, confounder, sizeof messages[i].confounder);
-    }
-    answer = krbrelay_sealer_seal_many(&handles.sealer, messages, given.messages, out, given.room, sizes, &failed);
-    if (answer == KRBRELAY_OK)
-        told.size = sizes[0];
-    return answer;
+    make_several();
+    return told_of_several(krbrelay_sealer_seal_many(&handles.sealer, several.all, given.messages, out, given.room,
+                                                     several.sizes, &several.failed));
 }
 
 static uint32_t peer_seal(void)
 {
     return krbrelay_peer_seal(&handles.peer, given.body, given.body_len, &given.at, confounder, out,
                               given.room, &told.size);
+}
+
+static uint32_t peer_seal_many(void)
+{
+    make_several();
+    return told_of_several(krbrelay_peer_seal_many(&handles.peer, several.all, given.messages, out, given.room,
+                                                   several.sizes, &several.failed));
 }
 
 static uint32_t sealer_seal_now(void)
@@ -360,6 +379,7 @@ struct call calls[] = {
     ROW(sealer_seal_record, SEALS, SEALER, OF_RECORDS, 0, 0, 0),
     ROW(sealer_seal_many, SEALS, SEALER, OF_DATA, 0, 0, 0),
     ROW(peer_seal, SEALS, PEER, OF_DATA, 0, 0, 0),
+    ROW(peer_seal_many, SEALS, PEER, OF_DATA, 0, 0, 0),
     ROW(sealer_seal_now, SEALS, SEALER, OF_DATA, 1, 0, 0),
     ROW(sealer_seal_record_now, SEALS, SEALER, OF_RECORDS, 1, 0, 0),
     ROW(peer_seal_now, SEALS, PEER, OF_DATA, 1, 0, 0),

@@ -49,18 +49,18 @@ static void try_batch(uint32_t mode, int32_t etype)
 }
 
 /* Messages in one call: eight side by side, four, and one at a time. */
-static void try_many(uint32_t mode, int32_t etype)
+static void try_many(const char *name, uint32_t mode, int32_t etype)
 {
     static const unsigned counts[] = { 2, 4, 5, 8, 13, KRBRELAY_MOST_MESSAGES };
     for (size_t i = 0; i < sizeof counts / sizeof *counts; i++) {
         given_anew(mode, etype, SIZE);
         given.messages = counts[i];
-        try_call(call_of("sealer_seal_many"), "several messages", KRBRELAY_OK);
+        try_call(call_of(name), "several messages", KRBRELAY_OK);
     }
     given_anew(mode, etype, SIZE);
     given.messages = KRBRELAY_MOST_MESSAGES;
     given.room = KRBRELAY_MOST_MESSAGES * SIZE;
-    try_call(call_of("sealer_seal_many"), "several messages, room for some", KRBRELAY_ROOM);
+    try_call(call_of(name), "several messages, room for some", KRBRELAY_ROOM);
 }
 
 void try_least(uint32_t mode, int32_t etype)
@@ -76,5 +76,6 @@ void try_least(uint32_t mode, int32_t etype)
     at_least(5, mode, etype, peer);
     at_least(2, mode, etype, resumed);
     try_batch(mode, etype);
-    try_many(mode, etype);
+    try_many("sealer_seal_many", mode, etype);
+    try_many("peer_seal_many", mode, etype);
 }

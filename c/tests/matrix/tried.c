@@ -103,11 +103,13 @@ static void opened_is_right(const struct call *call)
         carried_is_right(&told.carried);
 }
 
-/* How many messages it seals. */
-static unsigned messages_of(const struct call *call)
+static int takes_several(const struct call *call)
 {
-    return call == call_of("sealer_seal_many") ? given.messages : 1;
+    return call == call_of("sealer_seal_many") || call == call_of("peer_seal_many");
 }
+
+/* How many messages it seals. */
+static unsigned messages_of(const struct call *call) { return takes_several(call) ? given.messages : 1; }
 
 /* The number rises by one for each message, of what the call counts. */
 static uint64_t numbers_after(const struct call *call, uint64_t before)
@@ -179,7 +181,7 @@ static void asked_is_bounded(const struct call *call, uint32_t answer)
         is_so(asked.largest <= size + messages_of(call) * MORE_THAN_ASKED, "no block is larger than the frame");
     }
     if (call->does == SEALS && call->of == OF_DATA && given.mode == KRBRELAY_PRIV && answer == KRBRELAY_OK
-        && call != call_of("sealer_seal_many"))
+        && !takes_several(call))
         is_so(asked.times == 1, "a KRB-PRIV is sealed in one block");
     if (call->does == MAKES && answer == KRBRELAY_OK)
         is_so(asked.times > 0 && asked.largest < 4096, "a handle is a small block");

@@ -125,23 +125,44 @@ static size_t two_texts(uint8_t *batch, size_t room)
 }
 
 /* One message of each size in one call: some side by side, and some that are left over. */
-static void seal_together(struct krbrelay_sealer *sealer)
+enum { COUNT = sizeof sizes / sizeof sizes[0], MORE = 500 };
+
+static struct krbrelay_unsealed together[COUNT];
+static uint8_t frames[COUNT * (LONGEST + MORE)];
+static size_t made[KRBRELAY_MOST_MESSAGES], failed;
+
+static void put_together(void)
 {
-    enum { COUNT = sizeof sizes / sizeof sizes[0], MORE = 500 };
-    static uint8_t frames[COUNT * (LONGEST + MORE)];
-    struct krbrelay_unsealed messages[COUNT] = { 0 };
-    size_t made[KRBRELAY_MOST_MESSAGES], failed, whole = 0;
     for (size_t i = 0; i < COUNT; i++) {
-        messages[i].user_data = text;
-        messages[i].user_data_len = sizes[i];
-        messages[i].at = now;
-        memcpy(messages[i].confounder, confounder, sizeof confounder);
+        together[i].user_data = text;
+        together[i].user_data_len = sizes[i];
+        together[i].at = now;
+        memcpy(together[i].confounder, confounder, sizeof confounder);
     }
-    has_answered(krbrelay_sealer_seal_many(sealer, messages, COUNT, frames, sizeof frames, made, &failed),
-                 KRBRELAY_OK, "sealer_seal_many");
+}
+
+/* Publishes their frames where they were sealed. */
+static void sealed_together(enum krbrelay_answer answer, const char *what)
+{
+    size_t whole = 0;
+    has_answered(answer, KRBRELAY_OK, what);
     for (size_t i = 0; i < COUNT; i++)
         whole += made[i];
     publish(frames, whole);
+}
+
+static void seal_together(struct krbrelay_sealer *sealer)
+{
+    put_together();
+    sealed_together(krbrelay_sealer_seal_many(sealer, together, COUNT, frames, sizeof frames, made, &failed),
+                    "sealer_seal_many");
+}
+
+static void seal_together_by_peer(struct krbrelay_peer *peer)
+{
+    put_together();
+    sealed_together(krbrelay_peer_seal_many(peer, together, COUNT, frames, sizeof frames, made, &failed),
+                    "peer_seal_many");
 }
 
 static void make_peer(struct krbrelay_peer *peer)
@@ -164,6 +185,7 @@ static void seal_by_peer(void)
                  KRBRELAY_OK, "peer_resume");
     has_answered(krbrelay_peer_seal(&peer, text, 100, &now, confounder, frame, sizeof frame, &size),
                  KRBRELAY_OK, "peer_seal");
+    seal_together_by_peer(&peer);
     krbrelay_peer_free(&peer);
 }
 
