@@ -190,11 +190,19 @@ static int is_through(struct world *w, const struct sender *s)
     return 1;
 }
 
+/* Whether all of a shard was read: a store that was restored reads it again. */
+static int is_read(const struct world *w, uint32_t shard)
+{
+    const struct krbrelay_spot *spot = &w->store.spots[shard];
+    return w->shards[shard].items.count == 0
+           || (spot->list == w->shards[shard].list && spot->offset == shard_last(&w->shards[shard]));
+}
+
 int check_is_through(struct world *w)
 {
-    size_t i;
-    for (i = 0; i < w->sender_count; i++)
-        if (!is_through(w, &w->senders[i]))
+    uint32_t i;
+    for (i = 0; i < w->sender_count + w->plan->shards; i++)
+        if (i < w->sender_count ? !is_through(w, &w->senders[i]) : !is_read(w, i - (uint32_t)w->sender_count))
             return 0;
     return 1;
 }

@@ -53,7 +53,9 @@ enum fault_kind { LASTING_FAULTS(FAULT_VALUE) FIRST_SINGLE, BEFORE_SINGLE = FIRS
 
 enum { FAULTS = 32, NAMES = 6, SHARDS = 3, BATCH = 3 };
 #define UNTIL UINT64_C(60000)   /* the last fault has ended, in milliseconds */
-#define BOUND UINT64_C(600000)  /* and after so much more time all is done */
+#define BOUND UINT64_C(600000)  /* and after so much more time all is done, */
+#define EACH UINT64_C(64000)    /* and so much for each session of the stream that has most: it waits for the one before
+                                 * it, and is asked for again after so long a pause at most */
 
 /* `with` is drawn, and says what it strikes, and how. */
 struct fault { enum fault_kind kind; uint64_t at, length, with; int is_off; };

@@ -195,10 +195,11 @@ static void pay(struct world *w, struct receiver *r)
 static void load_session(struct world *w, struct receiver *r, const struct item *it, uint64_t offset)
 {
     struct receiving *of = receiver_session(w, r, it, offset);
-    if (of == NULL || of->turn == r->turn)
+    if (of == NULL)
         return;
-    receiver_ask(w, r, of);
-    if (of->opened.is_there)
+    if (of->turn != r->turn)
+        receiver_ask(w, r, of);
+    if (of->opened.is_there && of->end.drafted.number == 1)
         receiver_load_before(w, r, of->key);
 }
 

@@ -226,7 +226,7 @@ void sender_stop(struct world *w, uint32_t who, struct sending *it)
     it->is_stopped = 1;
     it->is_held = 0;
     w->counts[COUNT_STOPPED]++;
-    if (!w->has_copies)
+    if (!w->has_copies && w->outboxes[w->senders[who].outbox].turn == w->senders[who].turn)
         world_wrong(w, "session %u is stopped, and there is no other copy of its outbox", (unsigned)it->key);
     sender_note(w, who, it);
 }

@@ -140,6 +140,7 @@ uint32_t world_frame(struct world *w, const struct frame *it)
 uint32_t world_key(struct world *w, uint32_t name, uint32_t before, uint32_t turn)
 {
     struct key it = { name, before, turn, 1 + (uint32_t)chance_below(&w->chance, w->plan->life) };
+    w->turns = turn > w->turns ? turn : w->turns;
     GROW(w, w->keys);
     w->keys.at[w->keys.count] = it;
     return (uint32_t)w->keys.count++;
@@ -277,11 +278,17 @@ static void begin(struct world *w, const struct plan *plan, enum plant plant)
     draw_faults(w);
 }
 
+/* Whether nothing more has to happen in time. */
+static int is_over(const struct world *w)
+{
+    return w->events.count == 0 || w->wrong[0] != 0 || w->events.at[0].at > UNTIL + BOUND + EACH * w->turns;
+}
+
 void world_run(struct world *w, const struct plan *plan, enum plant plant)
 {
     int is_through = 0;
     begin(w, plan, plant);
-    while (w->events.count > 0 && w->wrong[0] == 0 && !is_through && w->events.at[0].at <= UNTIL + BOUND) {
+    while (!is_through && !is_over(w)) {
         struct event it = first_event(w);
         w->now = it.at;
         w->steps++;

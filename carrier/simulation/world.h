@@ -215,6 +215,7 @@ struct world {
     struct { struct event *at; size_t count, room; } events;
     struct frames frames;
     struct keys keys;
+    uint64_t turns;                     /* of the stream that has most */
     struct texts texts;
     struct receipts receipts;
     struct numbers last_receipts;       /* that the carrier keeps, by keys */
