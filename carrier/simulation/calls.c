@@ -35,7 +35,7 @@ void call_sealed(struct world *w, struct krbrelay_sending *end, uint64_t count)
 static void plant_confirmed(const struct world *w, struct krbrelay_sending *end, uint64_t number, uint64_t offset)
 {
     struct krbrelay_progress *progress = &end->progress;
-    if (w->plant == PLANT_ANY_CONFIRMED && number > progress->carried && number < progress->sent)
+    if (w->plant == PLANT_ANY_CONFIRMED && number > progress->carried && number < progress->sent && offset > progress->at)
         progress->carried = number;
     if (w->plant == PLANT_ANY_OFFSET && offset <= progress->at && offset > 0)
         progress->at = offset - 1;

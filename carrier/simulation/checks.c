@@ -94,7 +94,7 @@ static void check_wait(struct world *w, uint32_t number)
     uint32_t away = w->plan->count > 0 && !w->plan->faults[0].is_off
                         ? (uint32_t)(w->plan->faults[0].with % w->plan->shards) : SHARDS;
     int may_wait = name_shard(w, text->name) == away || (name_is_stream(w, text->name) && w->plan->life < LONG_LIFE);
-    if (w->plan->is_calm && !may_wait && w->now > text->put + CALM)
+    if (w->plan->is_calm && !may_wait && w->now > text->put + CALM + 2 * w->plan->sync)
         world_wrong(w, "text %u of name %u took effect after %llu ms, though its shard was there", (unsigned)text->place,
                     (unsigned)text->name, (unsigned long long)(w->now - text->put));
 }
@@ -141,6 +141,42 @@ void check_order(struct world *w)
 
 /* ---- What counts as done */
 
+/* All frames that an outbox has of a session took effect. */
+static int has_taken_all(const struct world *w, const struct row *row)
+{
+    size_t number;
+    for (number = 0; number < row->next; number++) {
+        uint32_t frame = world_number(&row->frames, (uint32_t)number);
+        if (frame != NONE && !w->frames.at[frame].has_taken)
+            return 0;
+    }
+    return 1;
+}
+
+/* A stream's session begins only after all that its sender sealed in the one before took effect. */
+void check_begin(struct world *w, const struct frame *it)
+{
+    uint32_t before = w->keys.at[it->key].before;
+    size_t i;
+    if (before == NONE || it->number != key_first(w, it->key))
+        return;
+    for (i = 0; i < w->outbox_count; i++) {
+        const struct row *row = outbox_row(&w->outboxes[i], before);
+        if (row != NULL && outbox_row(&w->outboxes[i], it->key) != NULL && !has_taken_all(w, row))
+            world_wrong(w, "session %u begins, and not all of session %u took effect", (unsigned)it->key, (unsigned)before);
+    }
+}
+
+/* Nothing leaves of a session of which a receipt, which was there at the start, has more than the outbox. */
+void check_leave(struct world *w, uint32_t who, uint32_t key)
+{
+    const struct sender *s = &w->senders[who];
+    uint32_t receipt = world_number(&s->known, key);
+    const struct row *row = outbox_row(&w->outboxes[s->outbox], key);
+    if (receipt != NONE && row != NULL && w->receipts.at[receipt].said.number > row->next)
+        world_wrong(w, "session %u: a frame leaves, though more of it took effect than its outbox has", (unsigned)key);
+}
+
 void check_done(struct world *w, uint32_t who, const struct sending *it)
 {
     struct outbox *o = &w->outboxes[w->senders[who].outbox];
@@ -166,10 +202,25 @@ static void add_session(struct world *w, const struct sending *it, struct waits 
     to->is_reported |= now.stands != KRBRELAY_STANDS_NOT || it->is_stopped;
 }
 
+/* Whether a session has frames, and its key couldn't be read: which a sender tells. */
+static int has_unloaded(const struct world *w, const struct sender *s, uint32_t name)
+{
+    const struct outbox *o = &w->outboxes[s->outbox];
+    size_t i;
+    for (i = 0; i < o->rows.count; i++) {
+        const struct row *row = &o->rows.at[i];
+        if (w->keys.at[row->key].name == name && !row->is_forgotten && row_has_frames(w, row)
+            && world_number(&s->by_key, row->key) == NONE)
+            return 1;
+    }
+    return 0;
+}
+
 static struct waits waits_of(struct world *w, const struct sender *s, uint32_t name)
 {
     const struct outbox *o = &w->outboxes[s->outbox];
-    struct waits it = { o->names[name].sealed < o->names[name].texts.count, 0 };
+    int has_none = has_unloaded(w, s, name);
+    struct waits it = { has_none || o->names[name].sealed < o->names[name].texts.count, has_none };
     size_t i;
     for (i = 0; i < s->sessions.count; i++)
         if (w->keys.at[s->sessions.at[i].key].name == name)

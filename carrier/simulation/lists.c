@@ -64,6 +64,7 @@ void carrier_publish(struct world *w, uint32_t sender, uint32_t shard, uint32_t 
     struct event it = { .kind = EVENT_KEEP, .who = sender, .life = s->life, .one = frame, .other = key,
                         .first = number, .second = s->lanes[shard].flow.list };
     w->counts[COUNT_PUBLISHED]++;
+    check_leave(w, sender, key);
     if (is_cut(w, s) || carrier_is_away(w, shard) || world_strikes(w, FAULT_LOSE_FRAMES, 300))
         return;
     world_after(w, arrival(w, s, shard), it);

@@ -30,6 +30,7 @@ static void draw_sizes(struct plan *p, struct chance *c)
     p->batch = chance_is(c, 300) ? BATCH : 1;
     p->put_aside = chance_is(c, 500) ? between(c, 1, 4) : 0;
     p->ask = chance_is(c, 500) ? 1000 : 10000;
+    p->sync = chance_is(c, 300) ? between(c, 50, 1000) : 3;
     p->has_small_room = chance_is(c, 500);
     p->drops = chance_is(c, 300);
     p->goes_on = chance_is(c, 60);

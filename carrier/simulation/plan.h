@@ -69,6 +69,7 @@ struct plan {
     unsigned batch;             /* texts of a record, at most */
     unsigned put_aside;         /* after so many refusals a text is put aside; 0: never */
     unsigned ask;               /* a sender asks for a shard's list after so many milliseconds */
+    unsigned sync;              /* a transaction of an outbox takes at least so many milliseconds */
     int has_small_room;         /* a sender seals as much as krb_engine says, and not as much as carrier/ */
     int drops;                  /* a receiver whose transaction failed calls `dropped`, and doesn't load again */
     int goes_on;                /* to the last moment, also where all is done */

@@ -25,6 +25,7 @@
     X(SKIPS, "one item in a read is skipped") \
     X(ANY_HISTORY, "an opening is taken on any history") \
     X(BEFORE_CLOSE, "an opening is taken before the close before it") \
+    X(LOOKS_ONCE, "the session before is looked for once") \
     X(ANY_TURN, "another session of a turn that was had begins") \
     X(ANY_RIVAL, "a second session after one is stored") \
     X(NO_ROWS, "rows aren't compared") \

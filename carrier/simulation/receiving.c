@@ -195,7 +195,7 @@ static void pay(struct world *w, struct receiver *r)
 static void load_session(struct world *w, struct receiver *r, const struct item *it, uint64_t offset)
 {
     struct receiving *of = receiver_session(w, r, it, offset);
-    if (of == NULL)
+    if (of == NULL || (of->turn == r->turn && w->plant == PLANT_LOOKS_ONCE))
         return;
     if (of->turn != r->turn)
         receiver_ask(w, r, of);

@@ -104,6 +104,7 @@ static void read_receipts(struct world *w, struct sender *s)
 {
     if (s->cut == 0 && w->on[FAULT_ALL_AWAY] == 0 && !world_strikes(w, FAULT_LOSE_RECEIPTS, 300))
         world_copy(w, &s->kept, &w->last_receipts);
+    world_copy(w, &s->known, &s->kept);
 }
 
 void sender_start(struct world *w, uint32_t who)

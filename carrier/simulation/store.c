@@ -91,8 +91,10 @@ static void add_effects(struct world *w, const struct taking *it)
 static void note_frames(struct world *w, const struct taking *it)
 {
     size_t i;
-    for (i = 0; i < it->frames.count; i++)
+    for (i = 0; i < it->frames.count; i++) {
         w->frames.at[it->frames.at[i]].has_taken = 1;
+        check_begin(w, &w->frames.at[it->frames.at[i]]);
+    }
 }
 
 void store_commit(struct world *w, const struct taking *it)

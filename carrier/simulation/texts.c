@@ -222,7 +222,7 @@ void sender_store(struct world *w, uint32_t who)
         return;
     s->sealing.is_open = 1;
     plant_sealed(w, s);
-    world_after(w, 3 + (world_strikes(w, FAULT_SLOW_DISK, 500) ? chance_below(&w->chance, 2000) : 0),
+    world_after(w, w->plan->sync + (world_strikes(w, FAULT_SLOW_DISK, 500) ? chance_below(&w->chance, 2000) : 0),
                 (struct event){ .kind = EVENT_COMMIT, .who = who, .life = s->life });
 }
 

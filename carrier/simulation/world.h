@@ -151,7 +151,8 @@ struct sender {
     int64_t wall;
     unsigned left_tries;
     struct { struct sending *at; size_t count, room; } sessions;
-    struct numbers by_key, kept;    /* the receipts that were there at the start, by keys */
+    struct numbers by_key, kept, known; /* the receipts that were there at the start, by keys: those that weren't
+                                     * heard yet, and all */
     struct { uint32_t now, next; int is_left; } streams[NAMES];
     struct lane lanes[SHARDS];
     uint64_t arrives[SHARDS], serves;
@@ -376,6 +377,8 @@ void fault_start(struct world *w, uint32_t who, int is_sender);
 
 int check_is_through(struct world *w);
 void check_effect(struct world *w, uint32_t name);
+void check_begin(struct world *w, const struct frame *it);
+void check_leave(struct world *w, uint32_t who, uint32_t key);
 void check_done(struct world *w, uint32_t who, const struct sending *it);
 void check_flow(struct world *w, uint32_t who, uint32_t lane);
 void check_ready(struct world *w, struct lane *lane, uint32_t place);
