@@ -26,6 +26,7 @@
     X(ANY_HISTORY, "an opening is taken on any history") \
     X(BEFORE_CLOSE, "an opening is taken before the close before it") \
     X(LOOKS_ONCE, "the session before is looked for once") \
+    X(NOT_COMPARED, "the session before isn't compared") \
     X(ANY_TURN, "another session of a turn that was had begins") \
     X(ANY_RIVAL, "a second session after one is stored") \
     X(NO_ROWS, "rows aren't compared") \

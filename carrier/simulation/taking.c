@@ -108,11 +108,16 @@ static void take_opening(struct world *w, struct receiver *r, struct receiving *
     receiver_changed(w, r, it);
 }
 
-/* A frame of a session that may not begin yet: it is asked for again. */
+/* A frame of a session that may not begin yet: it is asked for again. What is known of the session before is compared:
+ * another receiver may have gone on with it. */
 static void take_before_turn(struct world *w, struct receiver *r, struct receiving *it, const struct frame *frame)
 {
+    uint32_t key = w->keys.at[it->key].before;
+    struct receiving *before = key != NONE ? receiver_find(r, key) : NULL;
     (void)call_take(w, &it->end, frame, (struct krbrelay_seen){ .has_opened = 1, .opened = 1 });
     note_missed(w, r, it, MISSED_EARLY);
+    if (before != NULL && before->turn == r->turn && w->plant != PLANT_NOT_COMPARED)
+        receiver_changed(w, r, before);
 }
 
 int receiver_take(struct world *w, struct receiver *r, const struct item *item, uint64_t offset)
