@@ -263,6 +263,17 @@ static void plant_stays(struct receiver *r)
     r->taken.count = 0;
 }
 
+static void drop_changed(struct receiver *r)
+{
+    size_t i;
+    for (i = 0; i < r->changed.count; i++) {
+        struct receiving *it = receiver_find(r, r->changed.at[i]);
+        it->is_changed = 0;
+        place(r, it);
+    }
+    r->changed.count = 0;
+}
+
 /* A transaction had no effect: what it took is dropped, and read again. */
 static void drop(struct world *w, struct receiver *r)
 {
@@ -270,10 +281,10 @@ static void drop(struct world *w, struct receiver *r)
     for (i = 0; i < r->taken.count; i++) {
         struct receiving *it = receiver_find(r, r->taken.at[i]);
         call_dropped(w, &it->end);
-        it->is_taken = it->is_changed = 0;
-        place(r, it);
+        it->is_taken = 0;
     }
-    r->taken.count = r->changed.count = 0;
+    r->taken.count = 0;
+    drop_changed(r);
     read_after(w, r, r->reading.stored);
 }
 
