@@ -156,21 +156,32 @@ static int write_noise(struct world *w, uint64_t with)
     return w->keys.count > 0;
 }
 
-/* Frames and openings once more, in any shard, also under another session's name. */
+/* The last frames and openings of a shard once more, in their order, in another shard. */
+static void write_elsewhere(struct world *w, uint32_t from, uint32_t to)
+{
+    const struct shard *it = &w->shards[from];
+    size_t i, end = it->items.count;
+    for (i = end > OLD ? end - OLD : 0; i < end && from != to; i++)
+        list_add(w, to, it->items.at[i]);
+}
+
+/* Some of them in any order, in any shard, also under another session's name. */
 static int write_old(struct world *w, uint64_t with)
 {
-    const struct items *from = &w->shards[with % w->plan->shards].items;
+    uint32_t shard = (uint32_t)(with % w->plan->shards);
+    const struct items *from = &w->shards[shard].items;
     unsigned i, count = 1 + (unsigned)(with >> 32) % 10;
-    size_t most = from->count < OLD ? from->count : OLD;
-    for (i = 0; i < count && most > 0; i++) {
-        struct item it = from->at[from->count - 1 - chance_below(&w->chance, most)];
+    if (from->count == 0)
+        return 0;
+    for (i = 0; i < count; i++) {
+        struct item it = from->at[from->count - 1 - chance_below(&w->chance, from->count < OLD ? from->count : OLD)];
         if (chance_is(&w->chance, 200))
             it.key = (uint32_t)chance_below(&w->chance, w->keys.count);
         list_add(w, (uint32_t)chance_below(&w->chance, w->plan->shards), it);
-        from = &w->shards[with % w->plan->shards].items;
-        most = from->count < OLD ? from->count : OLD;
     }
-    return most > 0;
+    if (chance_is(&w->chance, 500))
+        write_elsewhere(w, shard, (shard + 1) % w->plan->shards);
+    return 1;
 }
 
 /* Confirmations of frames that may not be there. */
