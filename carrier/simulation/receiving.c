@@ -355,7 +355,7 @@ static void take_all(struct world *w, uint32_t who, uint64_t from, uint64_t to)
     world_after(w, 2 + chance_below(&w->chance, 7), (struct event){ .kind = EVENT_TAKE, .who = who, .life = r->life });
 }
 
-/* ---- What came of it */
+/* ---- The outcome */
 
 static void note_rows(struct receiver *r)
 {

@@ -226,7 +226,7 @@ void sender_store(struct world *w, uint32_t who)
                 (struct event){ .kind = EVENT_COMMIT, .who = who, .life = s->life });
 }
 
-/* ---- What came of it */
+/* ---- The outcome */
 
 static void note_stored(struct world *w, uint32_t who, struct sending *it)
 {
