@@ -305,13 +305,19 @@ static int may_lack(const struct plan *plan)
                || plan_has(plan, FAULT_RECEIVER_KEYS));
 }
 
+static void mark_all(struct world *w)
+{
+    uint32_t name;
+    for (name = 0; name < w->plan->names; name++)
+        mark_effects(w, name);
+}
+
 void check_end(struct world *w)
 {
     uint32_t i;
     w->may_lack = may_lack(w->plan);
     check_order(w);
-    for (i = 0; i < w->plan->names; i++)
-        mark_effects(w, i);
+    mark_all(w);
     for (i = 0; i < w->sender_count && w->wrong[0] == 0; i++)
         check_sender(w, &w->senders[i]);
 }

@@ -1,6 +1,8 @@
 /* What the drawn faults do (plan.h). */
 #include "calls.h"
 
+#include <string.h>
+
 enum { OLD = 50, TAKEN_OVER = 10000 };
 enum start { START_RECEIVER, START_SENDER, START_OTHER_RECEIVER };
 
@@ -116,13 +118,12 @@ static int write_again(struct world *w, uint64_t with)
 {
     uint32_t shard = (uint32_t)(with % w->plan->shards);
     struct items *items = &w->shards[shard].items;
-    size_t i, cut = items->count < 8 ? items->count : 8, first = items->count - cut;
+    size_t i, cut = items->count < 8 ? items->count : 8;
     struct item was[8];
     if (cut == 0)
         return 0;
-    for (i = 0; i < cut; i++)
-        was[i] = items->at[first + i];
-    items->count = first;
+    memcpy(was, items->at + items->count - cut, cut * sizeof *was);
+    items->count -= cut;
     for (i = 0; i < cut + 2; i++)
         list_add(w, shard, was[chance_below(&w->chance, cut)]);
     return 1;
@@ -322,6 +323,9 @@ static void begin_lasting(struct world *w, uint32_t fault, uint64_t with)
     case FAULT_SENDER_CUT: w->senders[sender].cut++; break;
     case FAULT_SENDER_CLOCK: w->senders[sender].wall = away; break;
     case FAULT_RECEIVER_CLOCK: w->receivers[receiver].wall = 14 * away; break;
+    case FAULT_RECEIVER_KEYS: /* as where a keytab is changed, and its programs are started again */
+        (void)kill_receiver(w, with);
+        break;
     case FAULT_RECEIVER_CUT:
         w->receivers[receiver].cut_until = w->now + it->length;
         if (it->length > TAKEN_OVER)

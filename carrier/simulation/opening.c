@@ -10,11 +10,12 @@ static int is_within(uint64_t one, uint64_t other, uint64_t skew)
     return (one > other ? one - other : other - one) <= skew;
 }
 
-/* A session of the store, whose key has to be readable, or NULL. */
+/* A session of the store, whose key has to be readable, or NULL. Keys are wrapped under several others, of which some
+ * may be missing. */
 static struct receiving *find_stored(struct world *w, struct receiver *r, uint32_t key)
 {
     struct receiving *it;
-    if (!store_opened(w, &w->store, key)->is_there || world_strikes(w, FAULT_RECEIVER_KEYS, 1000))
+    if (!store_opened(w, &w->store, key)->is_there || world_strikes(w, FAULT_RECEIVER_KEYS, 600))
         return NULL;
     it = receiver_add(w, r, key);
     it->opened = *store_opened(w, &w->store, key);

@@ -74,12 +74,17 @@ void world_put(struct world *w, struct numbers *list, uint32_t place, uint32_t n
     list->at[place] = number;
 }
 
-void world_forget(struct world *w)
+static void free_queues(struct world *w)
 {
-    struct kept *it = w->kept;
     size_t i;
     for (i = 0; i < SENDERS * SHARDS; i++)
         krbrelay_queue_free(&w->senders[i / SHARDS].lanes[i % SHARDS].queue);
+}
+
+void world_forget(struct world *w)
+{
+    struct kept *it = w->kept;
+    free_queues(w);
     while (it != NULL) {
         struct kept *next = it->next;
         free(it);
@@ -254,12 +259,18 @@ static void draw_faults(struct world *w)
             world_after(w, w->plan->faults[i].at, (struct event){ .kind = EVENT_FAULT, .one = i });
 }
 
+static void draw_lists(struct world *w)
+{
+    uint32_t i;
+    for (i = 0; i < w->plan->shards; i++)
+        w->shards[i].list = list_name(w);
+}
+
 static void start_all(struct world *w)
 {
     uint32_t i;
     w->sender_count = w->outbox_count = 1;
-    for (i = 0; i < w->plan->shards; i++)
-        w->shards[i].list = list_name(w);
+    draw_lists(w);
     sender_start(w, 0);
     for (i = 0; i < w->plan->shards * w->plan->receivers; i++)
         receiver_start(w, receiver_new(w, i % w->plan->shards));
