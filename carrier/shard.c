@@ -298,11 +298,15 @@ static int take_opening(struct shard *s, struct receiving *of, const struct carr
     return 0;
 }
 
-/* A frame of a session that may not begin yet: it is asked for again. */
+/* A frame of a session that may not begin yet: it is asked for again. The row of the session before is compared, since
+ * a receiver of another shard, in which somebody wrote its frames again, may have gone on with it. */
 static int take_before_turn(struct shard *s, struct receiving *of, const struct carried *it)
 {
     const struct krbrelay_seen seen = { .has_opened = 1, .opened = of->of.first };
+    struct receiving *before = NULL;
     uint32_t outcome = 0;
+    if (shard_find(s, of->opened->before, &before) == 1 && before->turn == s->turn)
+        note_changed(s, before);
     s->counts.early++;
     log_fact(LEVEL_WARNING, "frame_early", field_text("session", it->session),
              field_number("shard", s->number), field_number("offset", it->offset),

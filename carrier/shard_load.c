@@ -179,6 +179,15 @@ static int ask_store(struct shard *s)
     return 0;
 }
 
+/* Asks the store of a session, and of the one before it, for which it may wait: that one is looked for with each
+ * frame, since its row may come, or its key be readable, after this session was loaded. */
+static int ask_for(struct shard *s, struct receiving *it)
+{
+    int is_new = it->turn != s->turn;
+    ask(s, it);
+    return is_new || it->end.drafted.number == it->of.first ? ask_before(s, it) : 0;
+}
+
 int shard_load_frames(struct shard *s, int count)
 {
     int i;
@@ -196,10 +205,7 @@ int shard_load_frames(struct shard *s, int count)
             found = shard_find_opened(s, &s->frames[i], &s->of_frames[i]);
         if (found < 0)
             return -1;
-        if (found == 0 || s->of_frames[i]->turn == s->turn)
-            continue;
-        ask(s, s->of_frames[i]);
-        if (ask_before(s, s->of_frames[i]) != 0)
+        if (found == 1 && ask_for(s, s->of_frames[i]) != 0)
             return -1;
     }
     if (ask_store(s) != 0)

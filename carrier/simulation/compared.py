@@ -1,6 +1,7 @@
 """The model beside the proved ends: both get each call, and answer and become the same, or it is told.
 
-So the model, in which faults are planted, is the engine, as far as the runs go.
+So the Python package's ends, and the exports of the C library below them, do what the definitions say, as far as
+the drawn calls go (drawn.py).
 """
 from typing import Any, Callable
 

@@ -1,4 +1,4 @@
-"""Drawn calls of each end, also those that no world makes: whatever happens, in any order."""
+"""Drawn calls of each end, also those that no carrier makes: whatever happens, in any order."""
 import random
 from typing import Any
 

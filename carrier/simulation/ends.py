@@ -1,7 +1,5 @@
-"""The ends of a carrier, as a simulation reaches them: what krbrelay.engine has, by its names.
-
-A world makes its ends by one of these: the proved ones here, by the C library; the model's (model.py),
-which may have a planted fault; or both, which are compared after each call (compared.py).
+"""The ends of a carrier by the names of krbrelay.engine: the proved ones, the model's (model.py), which may have a
+planted fault, or both, which are compared after each call (compared.py).
 """
 import os
 import sys
@@ -83,7 +81,7 @@ class ReadingEnd(Protocol):
 
 
 class Ends(Protocol):
-    """What makes the ends of a world."""
+    """What makes the ends."""
     def sending(self, stored: Stored, now: int) -> SenderEnd: ...
     def flow(self) -> FlowEnd: ...
     def queue(self) -> QueueEnd: ...

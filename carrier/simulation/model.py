@@ -1,8 +1,8 @@
-"""A model of krb_engine and krb_queue, for the simulation alone: it isn't proved, and nothing ships it.
+"""A model of krb_engine and krb_queue, which is compared with the proved ends: it isn't proved, and nothing ships it.
 
 Each function is what the definition of its name in crates/krb_engine/specs says, and the classes have the
-names and calls of krbrelay.engine, with which compared.py compares them. `plants` are faults that the
-simulation has to find (world.PLANTS).
+names and calls of krbrelay.engine, with which compared.py compares them. `plants` are faults, of which the
+comparison has to find each.
 """
 import collections
 import dataclasses
@@ -13,6 +13,9 @@ from ends import (
     Asks, Command, Ended, Heard, Idle, Outcome, Probe, Publish, Read, Receipt, Row, Spot, Stands, Stored,
     Wake)
 
+PLANTS = ("confirmations delete", "digests aren't compared", "receipts before the commit",
+          "what was dropped stays", "no probes", "asks aren't heeded",
+          "a list that was cut off is waited for", "last in, first out")
 WINDOW, WINDOW_MOST, SERVICE, UNDER_WAY = 16, 256, 16, 2_048
 AGAIN, AGAIN_MOST = 2_000, 64_000
 PROBE, PROBE_MOST = 5_000, 960_000

@@ -1,9 +1,11 @@
 /* What a shard takes of frames, among them those of an independent sealer, that nothing of a transaction is
  * stored if an effect of it fails, and what is left in memory:
  *     shard_test FOLDER
- * Built with -Wl,--wrap=free,--wrap=krbrelay_opener_open. */
+ * Built with -Wl,--wrap=free,--wrap=krbrelay_opener_open,--wrap=kept_find,--wrap=opening_session. */
 #include "check.h"
 #include "effects.h"
+#include "kept.h"
+#include "receipts.h"
 #include "shard.h"
 
 #include "../../c/tests/frames.h"
@@ -50,6 +52,40 @@ enum krbrelay_answer __wrap_krbrelay_opener_open(struct krbrelay_opener *handle,
     return __real_krbrelay_opener_open(handle, frame, len, demand, at, user_data, room, size, carried);
 }
 
+/* Sessions of streams that the store has: keys are tom's, and can be read or not. */
+static const struct opened streams[] = { { .name = "one", .stream = "a" }, { .name = "two", .stream = "a", .before = "one" },
+                                         { .name = "three", .stream = "b" },
+                                         { .name = "four", .stream = "b", .before = "three" } };
+enum { STREAMS = sizeof streams / sizeof *streams };
+static const char *unreadable = "";
+
+int __wrap_kept_find(struct store *store, struct kerberos *kerberos, const char *name, kept_take *take, void *given);
+int __wrap_opening_session(struct kerberos *kerberos, const struct opened *it, unsigned number, struct session *of);
+
+int __wrap_kept_find(struct store *store, struct kerberos *kerberos, const char *name, kept_take *take, void *given)
+{
+    size_t i;
+    (void)store;
+    (void)kerberos;
+    for (i = 0; i < STREAMS; i++)
+        if (strcmp(streams[i].name, name) == 0 && strcmp(unreadable, name) != 0)
+            return take(given, &streams[i]);
+    return 0;
+}
+
+static const struct session *tom;
+
+int __wrap_opening_session(struct kerberos *kerberos, const struct opened *it, unsigned number, struct session *of)
+{
+    (void)kerberos;
+    *of = *tom;
+    of->shard = number;
+    of->first = 1;
+    of->has_opening = 1;
+    memcpy(of->name, it->name, sizeof of->name);
+    return 0;
+}
+
 static struct sessions *sessions_in(const char *folder)
 {
     static char path[4096];
@@ -65,11 +101,11 @@ static struct sessions *sessions_in(const char *folder)
     return read;
 }
 
-static void publish_at(struct carrier *carrier, uint64_t number, const uint8_t *frame, size_t len)
+static void publish_as(struct carrier *carrier, const char *name, uint64_t number, const uint8_t *frame, size_t len)
 {
     static struct confirmed list[1];
     int tries;
-    check(carrier_publish(carrier, SHARD, "tom", 0, number, frame, len) == 0, "a frame is published");
+    check(carrier_publish(carrier, SHARD, name, 0, number, frame, len) == 0, "a frame is published");
     for (tries = 0; tries < STEPS; tries++)
         if (carrier_confirmed(carrier, list, 1, 100) == 1)
             return;
@@ -78,7 +114,7 @@ static void publish_at(struct carrier *carrier, uint64_t number, const uint8_t *
 
 static void publish(struct carrier *carrier, const uint8_t *frame, size_t len)
 {
-    publish_at(carrier, NUMBER, frame, len);
+    publish_as(carrier, "tom", NUMBER, frame, len);
 }
 
 static void take(struct shard *shard)
@@ -105,8 +141,8 @@ static void test_times(struct shard *shard, struct carrier *carrier)
 static const char *const texts[] = { "first", "", "refused", "last" };
 enum { TEXTS = sizeof texts / sizeof *texts };
 
-/* Publishes the session's record under this number: a batch of the first so many texts, or one text. */
-static void publish_texts(struct carrier *carrier, uint32_t number, size_t count)
+/* Publishes a session's record under this number: a batch of the first so many texts, or one text. */
+static void publish_texts_as(struct carrier *carrier, const char *name, uint32_t number, size_t count)
 {
     static const uint8_t key[16] = { 0, 1, 2, 3, 4, 5, 6, 7, 8, 9, 10, 11, 12, 13, 14, 15 };
     static const uint8_t confounder[16] = { 0 };
@@ -124,7 +160,12 @@ static void publish_texts(struct carrier *carrier, uint32_t number, size_t count
           && krbrelay_sealer_seal_record(&sealer, KRBRELAY_BATCH, batch, size, &now, confounder, frame,
                                          sizeof frame, &len) == KRBRELAY_OK, "a record is sealed");
     krbrelay_sealer_free(&sealer);
-    publish_at(carrier, number, frame, len);
+    publish_as(carrier, name, number, frame, len);
+}
+
+static void publish_texts(struct carrier *carrier, uint32_t number, size_t count)
+{
+    publish_texts_as(carrier, "tom", number, count);
 }
 
 /* The one number that a query of the store tells. */
@@ -198,6 +239,58 @@ static void test_opened_once(struct shard *shard, struct carrier *carrier)
     check(shard->counts.repeats == repeats + 2, "so it is counted");
 }
 
+/* A session of a stream whose turn hasn't come, as far as the receiver sees: its frame comes too early. */
+static void publish_early(struct shard *shard, struct carrier *carrier, const char *name)
+{
+    uint64_t early = shard->counts.early, accepted = shard->counts.accepted;
+    publish_texts_as(carrier, name, 1, 2);
+    take(shard);
+    check(shard->counts.early == early + 1 && shard->counts.accepted == accepted, "its frame comes too early");
+}
+
+/* Its frame comes again, and is accepted. */
+static void publish_again(struct shard *shard, struct carrier *carrier, const char *name)
+{
+    uint64_t accepted = shard->counts.accepted;
+    publish_texts_as(carrier, name, 1, 2);
+    take(shard);
+    check(shard->counts.accepted == accepted + 1, "then it is accepted");
+}
+
+/* The key of the session before can't be read for a moment: it is looked for again with the next frame. */
+static void test_before_unreadable(struct shard *shard, struct carrier *carrier, sqlite3 *store)
+{
+    change(store, "INSERT INTO session (name, next, closed, shard) VALUES ('one', 2, 1, 3), ('two', 1, 0, 3)");
+    unreadable = "one";
+    publish_early(shard, carrier, "two");
+    unreadable = "";
+    publish_again(shard, carrier, "two");
+}
+
+/* A receiver of another shard, in which its frames were written again, goes on with the session before: what is
+ * known of it is compared. */
+static void test_before_elsewhere(struct shard *shard, struct carrier *carrier, sqlite3 *store)
+{
+    change(store, "INSERT INTO session (name, next, closed, shard) VALUES ('three', 1, 0, 3), ('four', 1, 0, 3)");
+    publish_early(shard, carrier, "four");
+    change(store, "UPDATE session SET next = 2, closed = 1, shard = 4 WHERE name = 'three'");
+    publish_again(shard, carrier, "four");
+}
+
+/* Sessions of streams, without MIT's library: what the store has of them is above. */
+static void test_streams(struct shard *shard, struct carrier *carrier, sqlite3 *store)
+{
+    static struct session of;
+    static char kerberos;
+    check(sessions_find(shard->sessions, "tom", &of) && receipt_key(&of) == 0, "the session of the file");
+    tom = &of;
+    shard->kerberos = (struct kerberos *)&kerberos;
+    shard->has_wrapped = 1;
+    test_before_unreadable(shard, carrier, store);
+    test_before_elsewhere(shard, carrier, store);
+    shard->kerberos = NULL;
+}
+
 int main(int count, char **words)
 {
     static char store[4096], where[4096];
@@ -222,6 +315,7 @@ int main(int count, char **words)
     test_times(&shard, carrier);
     test_failing_effect(&shard, carrier, asked);
     test_opened_once(&shard, carrier);
+    test_streams(&shard, carrier, asked);
     check(sqlite3_close(asked) == SQLITE_OK, "it is closed");
     watched = shard.bytes;
     memset(shard.bytes, 'x', KRBRELAY_FRAME_LIMIT);

@@ -128,8 +128,8 @@ PARTS = [
     Part("pytest carrier/tests/test_packages.py", 1, (PYTEST,), over=()),
     Part("pytest carrier/tests/test_effects.py", 10, (PYTEST, "rt", COMPILER, MAKE, SQLITE), LIBRARY.command, over=()),
     Part("pytest carrier/tests/test_left.py", 5, (PYTEST, "rt", COMPILER, CRYPTOGRAPHY, MAKE, SQLITE), LIBRARY.command, over=()),
-    Part("pytest carrier/tests/test_simulation.py", 1, (PYTEST,), over=()),
-    Part("pytest carrier/tests/test_simulation_proved.py", 2, (PYTEST, "rt", COMPILER, MAKE), LIBRARY.command, over=()),
+    Part("pytest carrier/tests/test_simulation.py", 10, (PYTEST, "rt", COMPILER, MAKE), LIBRARY.command, over=()),
+    Part("pytest carrier/tests/test_simulation_model.py", 2, (PYTEST, "rt", COMPILER, MAKE), LIBRARY.command, over=()),
     Part("pytest tests/test_job_check.py", 1, (PYTEST, CRYPTOGRAPHY), over=()),
     Part("tests/vector_tables.py --check", 1, over=()),
     Part("pytest tests/test_building.py", 10, (PYTEST, COMPILER, CRYPTOGRAPHY), over=()),
@@ -191,7 +191,6 @@ QUICK = [
     Part("pytest tests/test_tables.py", 1, (PYTEST,)),
     Part("tools/tables --check", 1),
     Part("pytest carrier/tests/test_statements.py", 1, (PYTEST,)),
-    Part("pytest carrier/tests/test_simulation.py", 1, (PYTEST,)),
     Part("pytest tests/test_job_check.py", 1, (PYTEST, CRYPTOGRAPHY)),
     Part("conformance/test --quick", 3, (CRYPTOGRAPHY,)),
     # The longest first.
