@@ -83,78 +83,61 @@ int carrier_option(const char *program, struct carrier_options *options, int let
 /* Ends the program with status 2 and a message unless the options that were taken go together. */
 void carrier_check_options(const char *program, const struct carrier_options *options);
 
+typedef void carrier_receipt(void *given, const char *session, const uint8_t *receipt, size_t len);
+
 /* Opens it; the options stay. NULL, with a line of the log, if it can't be opened. */
 struct carrier *carrier_open(const struct carrier_options *options);
 
-/* The incarnation of a shard, 0 if there is none yet, and its last offset, about. */
-int carrier_incarnation(struct carrier *carrier, unsigned shard, uint64_t *incarnation, uint64_t *end);
-
-/* The incarnation for one who publishes: the shard is made unless it exists. As long as the carrier has no
- * reason to ask again, that costs nothing. */
-int carrier_make(struct carrier *carrier, unsigned shard, uint64_t *incarnation);
-
-/* Passes a frame to the carrier. It is stored when it is confirmed, with the caller's tag and
- * number. If it isn't confirmed within some seconds, it may be stored or not. A confirmation counts
- * only up to the last offset that the shard has, whoever wrote it. */
-int carrier_publish(struct carrier *carrier, unsigned shard, const char *session, uint32_t tag,
-                    uint64_t number, const uint8_t *frame, size_t len);
-
-/* Takes confirmations, up to room of them, and answers how many. Waits for the first at most so
- * long. */
-int carrier_confirmed(struct carrier *carrier, struct confirmed *list, size_t room,
-                      int milliseconds);
-
-/* The next fetch begins after this offset of the shard, of the list that carrier_incarnation gave
- * last. */
-void carrier_seek(struct carrier *carrier, unsigned shard, uint64_t offset);
-
-/* Takes the next frames, up to room of them, and answers how many. Waits for the first at most so
- * long. CARRIER_CHANGED: it is another list, or ends before: ask for the incarnation, and seek. */
-int carrier_fetch(struct carrier *carrier, struct carried *list, size_t room, int milliseconds);
-
-/* How many frames stand after the last that was fetched: about, and as far as that is known. */
-int carrier_behind(struct carrier *carrier, uint64_t *frames);
-
-/* ---- Receipts (receipts.h), of which the last one of each session is kept, beside the shards. Each
- * may be lost, or given again. */
-
-/* Takes receipts of a shard's sessions: offsets don't matter. */
-int carrier_acknowledge(struct carrier *carrier, unsigned shard, const struct carried *list,
-                        size_t count);
-
-/* Passes those that came since the last call to a function; the first call passes the last one of each session,
- * and may wait for that. */
-typedef void carrier_receipt(void *given, const char *session, const uint8_t *receipt, size_t len);
-int carrier_receipts(struct carrier *carrier, carrier_receipt *take, void *given);
-
-/* A session has ended, and its receipt need not be kept. It may be kept all the same, where the carrier is away or
- * doesn't allow it. */
-void carrier_forget(struct carrier *carrier, unsigned shard, const char *session);
-
-/* Whether there is no connection now: another one is tried all the time. */
-int carrier_is_away(struct carrier *carrier);
-
-/* Whether the connection has ended for good, as where a server refused the credentials twice: that is
- * reported, and the program ends, so that it is started again and reads them anew. */
-int carrier_is_closed(struct carrier *carrier);
-
-void carrier_close(struct carrier *carrier);
-
-/* ---- For those who write a carrier: its first member is a struct carrier. */
-
+/* What a carrier does; the first member of each kind's own struct. */
 struct carrier {
-    int (*incarnation)(struct carrier *, unsigned, uint64_t *, uint64_t *);
-    int (*make)(struct carrier *, unsigned, uint64_t *);
-    void (*seek)(struct carrier *, unsigned, uint64_t);
-    int (*publish)(struct carrier *, unsigned, const char *, uint32_t, uint64_t, const uint8_t *,
-                   size_t);
-    int (*confirmed)(struct carrier *, struct confirmed *, size_t, int);
-    int (*fetch)(struct carrier *, struct carried *, size_t, int);
-    int (*behind)(struct carrier *, uint64_t *);
-    int (*acknowledge)(struct carrier *, unsigned, const struct carried *, size_t);
-    int (*receipts)(struct carrier *, carrier_receipt *, void *);
-    void (*forget)(struct carrier *, unsigned, const char *);
-    int (*is_away)(struct carrier *), (*is_closed)(struct carrier *); /* NULL: it never is */
+    /* The incarnation of a shard, 0 if there is none yet, and its last offset, about. */
+    int (*incarnation)(struct carrier *, unsigned shard, uint64_t *incarnation, uint64_t *end);
+
+    /* The incarnation for one who publishes: the shard is made unless it exists. As long as the carrier has no
+     * reason to ask again, that costs nothing. */
+    int (*make)(struct carrier *, unsigned shard, uint64_t *incarnation);
+
+    /* Passes a frame to the carrier. It is stored when it is confirmed, with the caller's tag and
+     * number. If it isn't confirmed within some seconds, it may be stored or not. A confirmation counts
+     * only up to the last offset that the shard has, whoever wrote it. */
+    int (*publish)(struct carrier *, unsigned shard, const char *session, uint32_t tag, uint64_t number,
+                   const uint8_t *frame, size_t len);
+
+    /* Takes confirmations, up to room of them, and answers how many. Waits for the first at most so
+     * long. */
+    int (*confirmed)(struct carrier *, struct confirmed *list, size_t room, int milliseconds);
+
+    /* The next fetch begins after this offset of the shard, of the list that `incarnation` gave last. */
+    void (*seek)(struct carrier *, unsigned shard, uint64_t offset);
+
+    /* Takes the next frames, up to room of them, and answers how many. Waits for the first at most so
+     * long. CARRIER_CHANGED: it is another list, or ends before: ask for the incarnation, and seek. */
+    int (*fetch)(struct carrier *, struct carried *list, size_t room, int milliseconds);
+
+    /* How many frames stand after the last that was fetched: about, and as far as that is known. */
+    int (*behind)(struct carrier *, uint64_t *frames);
+
+    /* ---- Receipts (receipts.h), of which the last one of each session is kept, beside the shards. Each
+     * may be lost, or given again. */
+
+    /* Takes receipts of a shard's sessions: offsets don't matter. */
+    int (*acknowledge)(struct carrier *, unsigned shard, const struct carried *list, size_t count);
+
+    /* Passes those that came since the last call to a function; the first call passes the last one of each session,
+     * and may wait for that. */
+    int (*receipts)(struct carrier *, carrier_receipt *take, void *given);
+
+    /* A session has ended, and its receipt need not be kept. It may be kept all the same, where the carrier is away or
+     * doesn't allow it. */
+    void (*forget)(struct carrier *, unsigned shard, const char *session);
+
+    /* Whether there is no connection now: another one is tried all the time. */
+    int (*is_away)(struct carrier *);
+
+    /* Whether the connection has ended for good, as where a server refused the credentials twice: that is
+     * reported, and the program ends, so that it is started again and reads them anew. */
+    int (*is_closed)(struct carrier *);
+
     void (*close)(struct carrier *);
 };
 

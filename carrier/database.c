@@ -163,9 +163,14 @@ void bind_number(struct statement *statement, int place, sqlite3_int64 number)
     note_bound(statement, sqlite3_bind_int64(statement->at, place, number));
 }
 
+static void bind_words(struct statement *statement, int place, const char *text, sqlite3_destructor_type stays)
+{
+    note_bound(statement, text != NULL ? sqlite3_bind_text(statement->at, place, text, -1, stays) : SQLITE_MISUSE);
+}
+
 void bind_text(struct statement *statement, int place, const char *text)
 {
-    note_bound(statement, sqlite3_bind_text(statement->at, place, text, -1, SQLITE_STATIC));
+    bind_words(statement, place, text, SQLITE_STATIC);
 }
 
 void bind_letters(struct statement *statement, int place, const char *text, size_t len)
@@ -219,19 +224,23 @@ void end_rows(struct statement *statement)
 
 /* ---- Rows that are inserted together */
 
-/* Rows that weren't given are NULL, and left out. */
+/* As many SELECTs as rows at most, of which so many are run as there are rows. Where a row is refused, those before it
+ * stay, since the transaction is given up: so SQLite keeps no copy of each page that the statement changes. */
 int prepare_rows(sqlite3 *db, struct rows *rows, const char *sql)
 {
-    const char *values = strstr(sql, "VALUES "), *row = values + strlen("VALUES "), *at;
-    char text[1024];
-    int i;
-    *rows = (struct rows){ .count = 0 };
-    for (at = row; *at != 0; at++)
-        rows->places += *at == '?';
-    write_whole(text, sizeof text, "%.*sSELECT * FROM (%s", (int)(values - sql), sql, values);
+    static const char places[] = "?,?,?,?,?,?,?,?"; /* of the longest row */
+    const char *values = strstr(sql, "VALUES "), *at = values;
+    char text[2048];
+    int i, len;
+    *rows = (struct rows){ .places = 1 };
+    while ((at = strchr(at + 1, ',')) != NULL)
+        rows->places++;
+    len = 2 * rows->places - 1;
+    sql += strlen("INSERT");
+    write_whole(text, sizeof text, "INSERT OR FAIL%.*sSELECT %.*s", (int)(values - sql), sql, len, places);
     for (i = 1; i < ROWS; i++)
-        write_whole(text + strlen(text), sizeof text - strlen(text), ", %s", row);
-    write_whole(text + strlen(text), sizeof text - strlen(text), ") WHERE column1 IS NOT NULL");
+        write_whole(text + strlen(text), sizeof text - strlen(text), " UNION ALL SELECT %.*s", len, places);
+    write_whole(text + strlen(text), sizeof text - strlen(text), " LIMIT ?");
     return prepare(db, &rows->all, text);
 }
 
@@ -243,22 +252,28 @@ int next_row(const struct rows *rows)
 void bind_copy(struct rows *rows, int place, const void *bytes, size_t len)
 {
     bind_blob(&rows->all, place, bytes, len, SQLITE_TRANSIENT);
+    rows->size += len;
 }
 
 void bind_name(struct rows *rows, int place, const char *name)
 {
-    note_bound(&rows->all, sqlite3_bind_text(rows->all.at, place, name, -1, SQLITE_TRANSIENT));
+    bind_words(&rows->all, place, name, SQLITE_TRANSIENT);
 }
 
 int add_row(struct rows *rows)
 {
-    return ++rows->count == ROWS ? insert_rows(rows) : 0;
+    return ++rows->count == ROWS || rows->size >= ROW_BYTES ? insert_rows(rows) : 0;
 }
 
 int insert_rows(struct rows *rows)
 {
-    int answer = rows->count > 0 ? step_once(&rows->all) : 0;
-    forget_rows(rows);
+    int answer;
+    if (rows->count == 0)
+        return 0;
+    bind_number(&rows->all, ROWS * rows->places + 1, rows->count);
+    answer = step_once(&rows->all);
+    rows->count = 0;
+    rows->size = 0;
     return answer;
 }
 
@@ -267,6 +282,7 @@ void forget_rows(struct rows *rows)
     if (rows->count > 0)
         (void)sqlite3_clear_bindings(rows->all.at); /* it has no fault */
     rows->all.is_unbound = rows->count = 0;
+    rows->size = 0;
 }
 
 /* ---- */

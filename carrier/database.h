@@ -33,7 +33,7 @@ struct statement { sqlite3_stmt *at; int is_unbound; };
 int prepare(sqlite3 *db, struct statement *statement, const char *sql);
 int prepare_all(sqlite3 *db, struct statement *statements, const char *const *sql, int count);
 
-/* Gives a place of it a value. */
+/* Gives a place of it a value; a text that is NULL is none. */
 void bind_number(struct statement *statement, int place, sqlite3_int64 number);
 void bind_text(struct statement *statement, int place, const char *text);
 void bind_letters(struct statement *statement, int place, const char *text, size_t len);
@@ -46,16 +46,16 @@ int step_once(struct statement *statement);
 int step_row(struct statement *statement);
 void end_rows(struct statement *statement);
 
-/* Rows that are inserted ROWS at a time, which is quicker than one by one. */
-enum { ROWS = 32 };
-struct rows { struct statement all; int places, count; };
+/* Rows that are inserted ROWS at a time, or as many as have ROW_BYTES, which is quicker than one by one. */
+enum { ROWS = 32, ROW_BYTES = 1 << 17 };
+struct rows { struct statement all; int places, count; size_t size; };
 
-/* Prepares it for a statement that inserts one row, "INSERT INTO .. VALUES (?, ..)", whose first value is never NULL:
- * 0, or -1 after a fault. */
+/* Prepares it for a statement that inserts one row, "INSERT INTO .. VALUES (..)", each of whose values is a place of
+ * its own: 0, or -1 after a fault. */
 int prepare_rows(sqlite3 *db, struct rows *rows, const char *sql);
 
-/* A row: its first value's place is the one after this number; bytes and names are copied by these two. Then it is
- * added, and inserted now or with later ones: 0, or -1 after a fault. */
+/* A row: its first value's place is the one after this number; bytes and names are copied by these two, others stay as
+ * they are until they are inserted. Then it is added, and inserted now or with later ones: 0, or -1 after a fault. */
 int next_row(const struct rows *rows);
 void bind_copy(struct rows *rows, int place, const void *bytes, size_t len);
 void bind_name(struct rows *rows, int place, const char *name);

@@ -1,8 +1,6 @@
 /* An example: each text becomes a row of the table `effect`. */
 #include "effect.h"
 
-#include <string.h>
-
 const char effect_tables_sqlite[] =
     "CREATE TABLE IF NOT EXISTS effect (id INTEGER PRIMARY KEY AUTOINCREMENT,"
     " session TEXT NOT NULL, number INTEGER NOT NULL, part INTEGER NOT NULL, text BLOB NOT NULL,"
@@ -34,14 +32,8 @@ const size_t effect_column_count = sizeof effect_columns / sizeof *effect_column
 
 int take_effect(struct store *store, const struct arrived *it)
 {
-    const struct value values[] = {
-        { VALUE_TEXT, 0, it->session, strlen(it->session) },
-        { VALUE_NUMBER, it->number, NULL, 0 },
-        { VALUE_NUMBER, it->part, NULL, 0 },
-        { VALUE_BYTES, 0, it->text, it->len },
-        { VALUE_TEXT, 0, it->client, strlen(it->client) },
-        { VALUE_TEXT, 0, it->stream, strlen(it->stream) },
-    };
-    return store_run(store, "INSERT INTO effect (session, number, part, text, client, stream)"
+    const struct value values[] = { text_value(it->session), number_value(it->number), number_value(it->part),
+                                    bytes_value(it->text, it->len), text_value(it->client), text_value(it->stream) };
+    return store_add(store, "INSERT INTO effect (session, number, part, text, client, stream)"
                             " VALUES ($1, $2, $3, $4, $5, $6)", values, 6);
 }

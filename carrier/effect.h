@@ -1,5 +1,5 @@
 /* The effect of a text. An application's own is a shared object with this function (`--effect object:FILE`), which
- * calls store_run of store.h. Here it is declared for both, and effect.c has the one that makes a row. */
+ * calls store_run or store_add of store.h. Here it is declared for both, and effect.c has the one that makes a row. */
 #ifndef EFFECT_H
 #define EFFECT_H
 

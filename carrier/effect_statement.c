@@ -114,13 +114,9 @@ int statement_choose(const char *text)
 static struct value value_of(enum name name, const struct arrived *it)
 {
     const char *text = name == SESSION ? it->session : name == CLIENT ? it->client : it->stream;
-    if (name == NUMBER)
-        return (struct value){ VALUE_NUMBER, it->number, NULL, 0 };
-    if (name == PART)
-        return (struct value){ VALUE_NUMBER, it->part, NULL, 0 };
-    if (name == TEXT)
-        return (struct value){ VALUE_BYTES, 0, it->text, it->len };
-    return (struct value){ VALUE_TEXT, 0, text, strlen(text) };
+    if (name == NUMBER || name == PART)
+        return number_value(name == NUMBER ? it->number : it->part);
+    return name == TEXT ? bytes_value(it->text, it->len) : text_value(text);
 }
 
 int statement_take(struct store *store, const struct arrived *it, char *reason)

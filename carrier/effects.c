@@ -124,15 +124,9 @@ static struct refused *find_or_add(struct memory *memory, const struct arrived *
 
 static int put_aside(struct store *store, const struct arrived *it, const char *reason)
 {
-    const struct value values[] = {
-        { VALUE_TEXT, 0, it->session, strlen(it->session) },
-        { VALUE_NUMBER, it->number, NULL, 0 },
-        { VALUE_NUMBER, it->part, NULL, 0 },
-        { VALUE_BYTES, 0, it->text, it->len },
-        { VALUE_TEXT, 0, it->client, strlen(it->client) },
-        { VALUE_TEXT, 0, it->stream, strlen(it->stream) },
-        { VALUE_TEXT, 0, reason, strlen(reason) },
-    };
+    const struct value values[] = { text_value(it->session), number_value(it->number), number_value(it->part),
+                                    bytes_value(it->text, it->len), text_value(it->client), text_value(it->stream),
+                                    text_value(reason) };
     log_fact(LEVEL_WARNING, "text_put_aside", field_text("session", it->session), field_number("number", it->number),
              field_number("part", it->part), field_text("text", "the table `aside` has it, with the reason"));
     return store_run(store, "INSERT INTO aside (session, number, part, text, client, stream, reason)"
@@ -144,7 +138,7 @@ static void note(struct memory *memory, const struct arrived *it, const char *re
 {
     struct refused *refused = find_or_add(memory, it);
     refused->times++;
-    write_cut(refused->reason, sizeof refused->reason, "%s", reason);
+    copy_cut(refused->reason, sizeof refused->reason, reason);
     log_fact(LEVEL_WARNING, "text_refused", field_text("session", it->session), field_number("number", it->number),
              field_number("part", it->part), field_number("times", refused->times));
 }
@@ -154,15 +148,15 @@ static int take_alone(struct store *store, const struct arrived *it, struct memo
 {
     char reason[EFFECT_REASON] = "";
     const char *of_store;
-    int answer = store_settle(store) == 0 ? 0 : -1;
+    int answer = store->settle(store) == 0 ? 0 : -1;
     if (answer != 0)
         return -1;
     answer = chosen.call(store, it, reason);
     if (answer == 0)
-        answer = store_settle(store);
+        answer = store->settle(store);
     if (answer == 0)
         return 0;
-    of_store = store_refusal(store);
+    of_store = store->refusal(store);
     if (answer == EFFECT_REFUSED || of_store != NULL)
         note(memory, it, answer == EFFECT_REFUSED ? reason : of_store);
     return -1;

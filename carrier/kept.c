@@ -76,10 +76,9 @@ static int read_row(void *given, const char *const *row)
 int kept_find(struct store *store, struct kerberos *kerberos, const char *name, kept_take *take,
               void *given)
 {
-    const struct value values[] = { { VALUE_TEXT, 0, name, strlen(name) } };
+    const struct value value = text_value(name);
     struct reading r = { .kerberos = kerberos, .take = take, .given = given };
-    return store_ask(store, "SELECT " COLUMNS " FROM opened WHERE name = $1", values, 1, read_row,
-                     &r);
+    return store->ask(store, "SELECT " COLUMNS " FROM opened WHERE name = $1", &value, 1, read_row, &r);
 }
 
 /* A session that may be the one that is looked for. */
@@ -96,12 +95,10 @@ static int compare_row(void *given, const char *const *row)
 
 int kept_is_forked(struct store *store, const struct opened *it)
 {
-    const struct value values[] = { { VALUE_TEXT, 0, it->client, strlen(it->client) },
-                                    { VALUE_TEXT, 0, it->stream, strlen(it->stream) },
-                                    { VALUE_TEXT, 0, it->before, strlen(it->before) },
-                                    { VALUE_TEXT, 0, it->name, strlen(it->name) } };
+    const struct value values[] = { text_value(it->client), text_value(it->stream), text_value(it->before),
+                                    text_value(it->name) };
     struct rival rival = { it, 0 };
-    int answer = store_ask(store, "SELECT name, client, stream, before FROM opened WHERE"
+    int answer = store->ask(store, "SELECT name, client, stream, before FROM opened WHERE"
                                   " (client = $1 AND stream = $2 AND before = $3) OR name = $4",
                            values, 4, compare_row, &rival);
     return answer == 0 ? rival.is_other : -1;
@@ -113,21 +110,13 @@ static int add_row(struct store *store, unsigned shard, const struct opened *it,
                    const struct wrapped *wrapped)
 {
     char key[2 * AT_REST_BYTES + 1], history[HISTORY_TEXT];
-    const struct value values[] = {
-        { VALUE_TEXT, 0, it->name, strlen(it->name) },
-        { VALUE_NUMBER, shard, NULL, 0 },
-        { VALUE_TEXT, 0, it->client, strlen(it->client) },
-        { VALUE_TEXT, 0, it->stream, strlen(it->stream) },
-        { VALUE_TEXT, 0, it->before, strlen(it->before) },
-        { VALUE_NUMBER, (uint64_t)it->etype, NULL, 0 },
-        { VALUE_NUMBER, it->ends, NULL, 0 },
-        { VALUE_NUMBER, wrapped->kvno, NULL, 0 },
-        { VALUE_NUMBER, (uint64_t)wrapped->etype, NULL, 0 },
-        { VALUE_TEXT, 0, key, 2 * wrapped->len },
-        { VALUE_TEXT, 0, history, it->closed.is_known ? HISTORY_TEXT - 1 : 0 },
-    };
     history_write(&it->closed, history);
     write_hex(wrapped->bytes, wrapped->len, key);
+    const struct value values[] = {
+        text_value(it->name), number_value(shard), text_value(it->client), text_value(it->stream), text_value(it->before),
+        number_value((uint64_t)it->etype), number_value(it->ends), number_value(wrapped->kvno),
+        number_value((uint64_t)wrapped->etype), text_value(key), text_value(history),
+    };
     return store_run(store, "INSERT INTO opened (name, shard, client, stream, before, etype, ends,"
                             " kvno, wrapping, key, history)"
                             " VALUES ($1, $2, $3, $4, $5, $6, $7, $8, $9, $10, $11)"
@@ -167,7 +156,7 @@ static int wrap_some(struct store *store, struct kerberos *kerberos, unsigned sh
     for (i = 0; i < some->count; i++)
         if (kept_add(store, kerberos, shard, &some->at[i]) != 0)
             return -1;
-    return store_settle(store);
+    return store->settle(store);
 }
 
 int kept_wrap_anew(struct store *store, struct kerberos *kerberos, unsigned shard)
@@ -177,11 +166,9 @@ int kept_wrap_anew(struct store *store, struct kerberos *kerberos, unsigned shar
     uint32_t kvno;
     int answer = some != NULL ? at_rest_newest(kerberos, &kvno) : -1;
     while (answer == 0 && r.rows == TOGETHER) {
-        const struct value values[] = { { VALUE_NUMBER, shard, NULL, 0 },
-                                        { VALUE_NUMBER, kvno, NULL, 0 },
-                                        { VALUE_TEXT, 0, r.last, strlen(r.last) } };
+        const struct value values[] = { number_value(shard), number_value(kvno), text_value(r.last) };
         r.rows = some->count = 0;
-        answer = store_ask(store, "SELECT " COLUMNS " FROM opened WHERE shard = $1 AND kvno <> $2"
+        answer = store->ask(store, "SELECT " COLUMNS " FROM opened WHERE shard = $1 AND kvno <> $2"
                                   " AND name > $3 ORDER BY name LIMIT 64", values, 3, read_row, &r);
         if (answer == 0)
             answer = wrap_some(store, kerberos, shard, some);

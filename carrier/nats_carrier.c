@@ -48,8 +48,7 @@ static void end_connection(struct nats_carrier *c)
     natsSubscription_Destroy(c->replies);
     natsSubscription_Destroy(c->answers);
     natsSubscription_Destroy(c->receipts);
-    natsSubscription_Destroy(c->about);
-    c->replies = c->answers = c->receipts = c->about = NULL;
+    c->replies = c->answers = c->receipts = NULL;
     natsConnection_Destroy(c->connection);
     c->connection = NULL;
 }
@@ -228,19 +227,8 @@ struct carrier *nats_carrier_open(const struct carrier_options *options)
     natsStatus status;
     if (c == NULL)
         return NULL;
-    c->base.incarnation = nats_incarnation;
-    c->base.make = nats_make;
-    c->base.publish = nats_publish;
-    c->base.confirmed = nats_confirmed;
-    c->base.seek = nats_seek;
-    c->base.fetch = nats_fetch;
-    c->base.behind = nats_behind;
-    c->base.acknowledge = nats_acknowledge;
-    c->base.receipts = nats_receipts;
-    c->base.forget = nats_forget;
-    c->base.is_away = is_away;
-    c->base.is_closed = is_closed;
-    c->base.close = close_it;
+    c->base = (struct carrier){ nats_incarnation, nats_make, nats_publish, nats_confirmed, nats_seek, nats_fetch,
+                                nats_behind, nats_acknowledge, nats_receipts, nats_forget, is_away, is_closed, close_it };
     c->replicas = options->replicas;
     status = natsOptions_Create(&c->options);
     if (status == NATS_OK && set_options(c->options, options) == NATS_OK) {

@@ -11,7 +11,12 @@
 #include <krbrelay.h>
 #include <nats/nats.h>
 
-enum { NATS_HELD = 4096, NATS_TEXT = 512, NATS_SUBJECT = 160 };
+enum { NATS_HELD = 4096, NATS_TEXT = 512, NATS_SUBJECT = 160, NATS_NAME = 32 };
+
+/* Streams have the numbers of their shards; that of receipts has this one. */
+enum { NATS_RECEIPTS = CARRIER_SHARDS };
+#define NATS_RECEIPTS_NAME "KRB_RECEIPTS"
+#define NATS_RECEIPTS_SUBJECTS "krbr.*.*"
 
 struct nats_carrier {
     struct carrier base;
@@ -25,10 +30,10 @@ struct nats_carrier {
     natsSubscription *replies;
     unsigned long asked;
     int patience, answered;
-    /* Of each shard to which frames are published: its incarnation, whether it is known, the question about it
-     * that is under way, or 0, and the pause until the next one. */
+    /* Of each shard to which frames are published, and of the stream of a receiver's receipts: its incarnation, whether
+     * it is known, the question about it that is under way, or 0, and the pause until the next one. */
     struct { uint64_t incarnation; unsigned long question; struct krbrelay_pause pause; int is_known; }
-        made[CARRIER_SHARDS];
+        made[NATS_RECEIPTS + 1];
     unsigned long questions;            /* so many were asked, */
     unsigned asked_count;               /* and are under way */
     uint64_t doubted;                   /* when it was last doubted that all are there, in milliseconds */
@@ -44,9 +49,7 @@ struct nats_carrier {
     natsMsg *held[NATS_HELD];
     int held_count;
     natsSubscription *receipts;         /* all that are published, from the first look on */
-    natsSubscription *about;            /* a receiver's: answers about their stream, */
-    struct krbrelay_pause asking, first; /* which isn't asked for before this is over; receipts wait for it at first */
-    int is_asked, is_kept;              /* a question about it wasn't answered; it is there */
+    struct krbrelay_pause first;        /* a receiver's wait so long for their stream at first */
     int has_told_replicas;              /* it was told that it has too few replicas */
 };
 
@@ -61,6 +64,8 @@ natsStatus nats_hear(struct nats_carrier *c, const char *word, natsSubscription 
 void nats_look_at_clock(struct nats_carrier *c);
 
 /* ---- nats_streams.c: what streams and their consumers say. */
+
+void nats_name_stream(unsigned stream, char name[NATS_NAME]);
 
 /* What a stream says of itself. */
 struct nats_stream {
@@ -89,11 +94,9 @@ int nats_read_place(natsMsg *message, struct nats_place *it);
 /* Waits for a message at most so long, by a clock that isn't set. */
 natsStatus nats_await(natsSubscription *from, natsMsg **message, int milliseconds);
 
-/* Asks about a stream, or has it made; the answer comes to that subject, and isn't waited for. How a stream is
- * made that keeps so many messages of each subject, -1: all. */
+/* Asks about a stream, or has it made; the answer comes to that subject, and isn't waited for. How it is made. */
 void nats_ask(struct nats_carrier *c, const char *what, const char *stream, const char *reply, const char *text);
-void nats_write_stream(const struct nats_carrier *c, const char *stream, const char *subject, int of_subject,
-                       char text[NATS_TEXT]);
+void nats_write_stream(const struct nats_carrier *c, unsigned stream, char text[NATS_TEXT]);
 
 /* Whether an answer has a word; the number after it, or 0; what an error describes itself as. */
 int nats_says(natsMsg *message, const char *word);
@@ -101,6 +104,11 @@ uint64_t nats_number_after(natsMsg *message, const char *word);
 void nats_read_description(natsMsg *message, char text[NATS_TEXT]);
 
 /* ---- nats_publisher.c: makes streams, publishes frames, and reads confirmations. */
+
+/* Asks for a stream from time to time, which is made if there is none. One message is read, if there is one: whether
+ * there was, and how many frames it confirms. */
+void nats_look_for(struct nats_carrier *c, unsigned stream);
+int nats_read_one(struct nats_carrier *c, struct confirmed *list, int *count);
 
 int nats_make(struct carrier *base, unsigned shard, uint64_t *incarnation);
 int nats_publish(struct carrier *base, unsigned shard, const char *session, uint32_t tag,
@@ -119,7 +127,8 @@ void nats_stop_reading(struct nats_carrier *c);
 
 int nats_acknowledge(struct carrier *base, unsigned shard, const struct carried *list,
                      size_t count);
-natsStatus nats_look_for_receipts(struct nats_carrier *c); /* a receiver's: waits for nothing */
+void nats_look_for_receipts(struct nats_carrier *c); /* a receiver's: waits for nothing */
+void nats_check_replicas(struct nats_carrier *c, const struct nats_stream *it);
 natsStatus nats_hear_receipts(struct nats_carrier *c);
 int nats_receipts(struct carrier *base, carrier_receipt *take, void *given);
 void nats_forget(struct carrier *base, unsigned shard, const char *session);

@@ -25,11 +25,11 @@ enum {
 
 /* ---- Streams */
 
-/* Asks for a shard's stream, or has it made. */
+/* Asks for a stream, or has it made. */
 static void ask(struct nats_carrier *c, unsigned shard, const char *what, const char *text)
 {
-    char stream[32], reply[NATS_SUBJECT];
-    write_whole(stream, sizeof stream, "KRB_%u", shard);
+    char stream[NATS_NAME], reply[NATS_SUBJECT];
+    nats_name_stream(shard, stream);
     write_whole(reply, sizeof reply, "%s.%lu.%u.stream.0", (const char *)c->inbox, ++c->questions, shard);
     c->made[shard].question = c->questions;
     nats_ask(c, what, stream, reply, text);
@@ -44,7 +44,7 @@ static void end_question(struct nats_carrier *c, unsigned shard)
 
 /* Asks whether a stream is there, unless that is under way. Before the answer to the one before was due, nothing
  * is asked. */
-static void look_for(struct nats_carrier *c, unsigned shard)
+void nats_look_for(struct nats_carrier *c, unsigned shard)
 {
     uint64_t now = milliseconds();
     if (!krbrelay_pause_is_over(&c->made[shard].pause, now))
@@ -67,46 +67,41 @@ static void look_for(struct nats_carrier *c, unsigned shard)
 int nats_make(struct carrier *base, unsigned shard, uint64_t *incarnation)
 {
     struct nats_carrier *c = (struct nats_carrier *)base;
-    look_for(c, shard);
+    nats_look_for(c, shard);
     *incarnation = c->made[shard].incarnation;
     return c->made[shard].is_known ? 0 : CARRIER_FAULT;
-}
-
-static void make_stream(struct nats_carrier *c, unsigned shard)
-{
-    char stream[32], subject[32], text[NATS_TEXT];
-    write_whole(stream, sizeof stream, "KRB_%u", shard);
-    write_whole(subject, sizeof subject, "krb.%u.*", shard);
-    nats_write_stream(c, stream, subject, -1, text);
-    ask(c, shard, "STREAM.CREATE", text);
 }
 
 /* Why the servers have no such stream. */
 static void report_unmade(struct nats_carrier *c, natsMsg *message, unsigned shard)
 {
-    char name[32], fault[NATS_TEXT];
-    write_whole(name, sizeof name, "KRB_%u", shard);
+    char name[NATS_NAME], fault[NATS_TEXT];
+    nats_name_stream(shard, name);
     nats_read_description(message, fault);
     log_fact(LEVEL_ERROR, "stream_unmade", field_text("stream", name), field_number("replicas", c->replicas),
              field_text("fault", fault), field_text("text", "are there so many nodes? Tried again"));
 }
 
-/* Whether the stream can be the shard. */
+/* Whether the stream can be the shard. That of receipts is used as it is. */
 static int is_fit(struct nats_carrier *c, const struct nats_stream *it, unsigned shard)
 {
-    char name[32];
-    write_whole(name, sizeof name, "KRB_%u", shard);
-    return nats_judge_stream(c, name, it) == NATS_OK;
+    char name[NATS_NAME];
+    nats_name_stream(shard, name);
+    if (shard == NATS_RECEIPTS)
+        nats_check_replicas(c, it);
+    return shard == NATS_RECEIPTS || nats_judge_stream(c, name, it) == NATS_OK;
 }
 
 /* Reads the answer to the question about a stream: two that make the same one at once both get it. */
 static void read_stream(struct nats_carrier *c, natsMsg *message, unsigned shard)
 {
+    char text[NATS_TEXT];
     struct nats_stream it;
     natsStatus status = nats_read_stream(message, &it);
     c->made[shard].is_known = status == NATS_OK && is_fit(c, &it, shard);
     if (status == NATS_NOT_FOUND) {
-        make_stream(c, shard);
+        nats_write_stream(c, shard, text);
+        ask(c, shard, "STREAM.CREATE", text);
         return;
     }
     if (status == NATS_OK)
@@ -162,7 +157,7 @@ static int read_message(struct nats_carrier *c, natsMsg *message, struct confirm
     unsigned shard;
     int used = 0;
     if (sscanf(place, ".%lu.%u.stream.0%n", &question, &shard, &used) == 2 && used > 0) {
-        if (shard < CARRIER_SHARDS && question == c->made[shard].question)
+        if (shard <= NATS_RECEIPTS && question == c->made[shard].question)
             read_stream(c, message, shard);
         return 0;
     }
@@ -182,13 +177,12 @@ static void doubt_all(struct nats_carrier *c)
     if (now - c->doubted < DOUBT)
         return;
     c->doubted = now;
-    for (shard = 0; shard < CARRIER_SHARDS; shard++)
+    for (shard = 0; shard <= NATS_RECEIPTS; shard++)
         if (c->made[shard].is_known && c->made[shard].question == 0)
             krbrelay_pause_begin(&c->made[shard].pause, 0, now);
 }
 
-/* Reads one message, if there is one: whether there was. */
-static int read_one(struct nats_carrier *c, struct confirmed *list, int *count)
+int nats_read_one(struct nats_carrier *c, struct confirmed *list, int *count)
 {
     natsMsg *message = NULL;
     natsStatus status = natsSubscription_NextMsg(&message, c->answers, 0);
@@ -208,7 +202,7 @@ int nats_confirmed(struct carrier *base, struct confirmed *list, size_t room, in
     int count = 0, has_more = 1;
     nats_look_at_clock(c);
     while (has_more && (size_t)count < room) {
-        has_more = read_one(c, list, &count);
+        has_more = nats_read_one(c, list, &count);
         if (!has_more && count == 0 && milliseconds() < end) {
             pause_milliseconds(1);
             has_more = 1;

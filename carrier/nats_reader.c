@@ -52,9 +52,9 @@ void nats_seek(struct carrier *base, unsigned shard, uint64_t offset)
 /* Asks for a shard's stream: NATS_NOT_FOUND if there is none, NATS_ERR if it isn't one that a shard may be. */
 static natsStatus ask_shard(struct nats_carrier *c, unsigned shard, struct nats_stream *it)
 {
-    char name[32];
+    char name[NATS_NAME];
     natsStatus status;
-    write_whole(name, sizeof name, "KRB_%u", shard);
+    nats_name_stream(shard, name);
     status = nats_ask_stream(c, name, it);
     if (status == NATS_OK)
         return nats_judge_stream(c, name, it);
@@ -102,12 +102,12 @@ static natsStatus make_consumer(struct nats_carrier *c, const char *name)
 
 static int begin_reading(struct nats_carrier *c)
 {
-    char name[32];
+    char name[NATS_NAME];
     natsStatus status;
     int answer = check_stream(c);
     if (answer != 0)
         return answer;
-    write_whole(name, sizeof name, "KRB_%u", c->shard);
+    nats_name_stream(c->shard, name);
     status = make_consumer(c, name);
     if (status != NATS_OK) {
         leave(c);
@@ -115,7 +115,7 @@ static int begin_reading(struct nats_carrier *c)
     }
     c->delivered = 0;
     c->heard = milliseconds();
-    (void)nats_look_for_receipts(c); /* a fault is met again with the first receipt */
+    nats_look_for_receipts(c);
     return 0;
 }
 
@@ -138,7 +138,7 @@ static int read_frame(struct nats_carrier *c, natsMsg *message, struct carried *
         return 0;
     c->pending = place.left;
     it->offset = place.offset;
-    write_cut(it->session, sizeof it->session, "%s", name != NULL ? name + 1 : "");
+    copy_cut(it->session, sizeof it->session, name != NULL ? name + 1 : NULL);
     it->frame = (const uint8_t *)natsMsg_GetData(message);
     it->len = (size_t)natsMsg_GetDataLength(message);
     if (it->frame == NULL)
@@ -194,8 +194,8 @@ int nats_fetch(struct carrier *base, struct carried *list, size_t room, int mill
     int count = 0, answer, has_frame;
     let_go(c);
     nats_look_at_clock(c);
-    if (c->is_asked)
-        (void)nats_look_for_receipts(c); /* as above */
+    if (c->made[NATS_RECEIPTS].question != 0)
+        nats_look_for_receipts(c);
     if (c->reader == NULL && (answer = begin_reading(c)) != 0) {
         pause_milliseconds(RETRY);
         return answer;
@@ -206,7 +206,7 @@ int nats_fetch(struct carrier *base, struct carried *list, size_t room, int mill
     }
     if (status != NATS_OK && status != NATS_TIMEOUT) {
         leave(c);
-        (void)nats_report("a reader begins again after what it had", status); /* as above */
+        (void)nats_report("a reader begins again after what it had", status); /* it is no fault of this fetch */
     }
     return count;
 }

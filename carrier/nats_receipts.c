@@ -8,74 +8,31 @@
 
 #include <string.h>
 
-#define STREAM "KRB_RECEIPTS"
-#define SUBJECTS "krbr.*.*"
-
-/* Milliseconds after which the stream is looked for again; for which the first receipts wait until it is there. */
-enum { AGAIN = 10000, FIRST = 1000 };
+enum { FIRST = 1000 }; /* milliseconds for which the first receipts wait until their stream is there */
 
 /* Tells once that a node's end would take the receipts with it. */
-static void check_replicas(struct nats_carrier *c, uint64_t replicas)
+void nats_check_replicas(struct nats_carrier *c, const struct nats_stream *it)
 {
-    if (replicas >= c->replicas || c->has_told_replicas)
+    if (it->replicas >= c->replicas || c->has_told_replicas)
         return;
     c->has_told_replicas = 1;
-    log_fact(LEVEL_WARNING, "receipts_unfit", field_text("stream", STREAM),
-             field_number("replicas", replicas), field_number("wanted", c->replicas),
+    log_fact(LEVEL_WARNING, "receipts_unfit", field_text("stream", NATS_RECEIPTS_NAME),
+             field_number("replicas", it->replicas), field_number("wanted", c->replicas),
              field_text("text", "it has fewer replicas than --replicas asks for: change the stream"));
 }
 
 /* ---- A receiver: it waits for no answer */
 
-/* Asks about the stream. What was asked before and wasn't answered goes into the log. */
-static void ask(struct nats_carrier *c, const char *what, const char *text)
-{
-    char reply[NATS_SUBJECT];
-    if (c->is_asked)
-        (void)nats_report("the stream of receipts", NATS_TIMEOUT); /* CARRIER_FAULT, as for each fault */
-    write_whole(reply, sizeof reply, "%s.receipts", (const char *)c->inbox);
-    c->is_asked = 1;
-    nats_ask(c, what, STREAM, reply, text);
-}
-
-/* What was answered: the stream is made if there is none. */
-static void read_about(struct nats_carrier *c, natsMsg *message)
-{
-    char text[NATS_TEXT];
-    struct nats_stream it;
-    natsStatus status = nats_read_stream(message, &it);
-    c->is_asked = 0;
-    if (status == NATS_NOT_FOUND) {
-        nats_write_stream(c, STREAM, SUBJECTS, 1, text);
-        ask(c, "STREAM.CREATE", text);
-    } else if (status != NATS_OK) {
-        (void)nats_report("the stream of receipts", status); /* as above */
-    } else {
-        c->is_kept = 1;
-        check_replicas(c, it.replicas);
-    }
-}
-
 /* Looks for the stream from time to time, and makes it: what is published meanwhile is heard all the same. */
-natsStatus nats_look_for_receipts(struct nats_carrier *c)
+void nats_look_for_receipts(struct nats_carrier *c)
 {
-    natsStatus status = NATS_OK;
-    if (c->about == NULL) {
-        status = nats_hear(c, "receipts", &c->about);
+    struct confirmed none; /* a receiver publishes no frames */
+    int count = 0;
+    if (c->first.length == 0)
         krbrelay_pause_begin(&c->first, FIRST, milliseconds());
-    }
-    while (status == NATS_OK) {
-        natsMsg *message = NULL;
-        status = natsSubscription_NextMsg(&message, c->about, 0);
-        if (status == NATS_OK)
-            read_about(c, message);
-        natsMsg_Destroy(message);
-    }
-    if (krbrelay_pause_is_over(&c->asking, milliseconds())) {
-        krbrelay_pause_begin(&c->asking, AGAIN, milliseconds());
-        ask(c, "STREAM.INFO", "");
-    }
-    return status == NATS_TIMEOUT || status == NATS_NO_RESPONDERS ? NATS_OK : status;
+    nats_look_for(c, NATS_RECEIPTS);
+    while (nats_read_one(c, &none, &count))
+        count = 0;
 }
 
 int nats_acknowledge(struct carrier *base, unsigned shard, const struct carried *list,
@@ -83,9 +40,10 @@ int nats_acknowledge(struct carrier *base, unsigned shard, const struct carried 
 {
     struct nats_carrier *c = (struct nats_carrier *)base;
     char subject[64];
-    natsStatus status = nats_look_for_receipts(c);
+    natsStatus status = NATS_OK;
     size_t i;
-    if (status == NATS_OK && !c->is_kept && !krbrelay_pause_is_over(&c->first, milliseconds()))
+    nats_look_for_receipts(c);
+    if (!c->made[NATS_RECEIPTS].is_known && !krbrelay_pause_is_over(&c->first, milliseconds()))
         return CARRIER_FAULT; /* they are sealed again in a moment, and kept then */
     for (i = 0; i < count && status == NATS_OK; i++) {
         write_whole(subject, sizeof subject, "krbr.%u.%s", shard, list[i].session);
@@ -110,8 +68,8 @@ static natsStatus read_kept(struct nats_carrier *c, carrier_receipt *take, void 
 {
     natsSubscription *reader = NULL;
     struct nats_place place = { .left = 1 };
-    natsStatus status = nats_consume(c, STREAM, "\"deliver_policy\":\"last_per_subject\",\"filter_subject\":\"" SUBJECTS
-                                     "\"", &reader);
+    natsStatus status = nats_consume(c, NATS_RECEIPTS_NAME, "\"deliver_policy\":\"last_per_subject\",\"filter_subject\":\""
+                                     NATS_RECEIPTS_SUBJECTS "\"", &reader);
     while (status == NATS_OK && place.left > 0) {
         natsMsg *message = NULL;
         status = nats_await(reader, &message, 2 * c->patience);
@@ -127,7 +85,7 @@ static natsStatus read_kept(struct nats_carrier *c, carrier_receipt *take, void 
 
 natsStatus nats_hear_receipts(struct nats_carrier *c)
 {
-    return natsConnection_SubscribeSync(&c->receipts, c->connection, SUBJECTS);
+    return natsConnection_SubscribeSync(&c->receipts, c->connection, NATS_RECEIPTS_SUBJECTS);
 }
 
 /* Begins to hear them, and reads what is kept: without it a sender hears what it needs by its probes. */
@@ -137,9 +95,9 @@ static natsStatus begin_to_hear(struct nats_carrier *c, carrier_receipt *take, v
     struct nats_stream it;
     if (status != NATS_OK)
         return status;
-    kept = nats_ask_stream(c, STREAM, &it);
+    kept = nats_ask_stream(c, NATS_RECEIPTS_NAME, &it);
     if (kept == NATS_OK)
-        check_replicas(c, it.replicas);
+        nats_check_replicas(c, &it);
     if (kept == NATS_OK && it.messages > 0)
         kept = read_kept(c, take, given);
     if (kept != NATS_OK && kept != NATS_NOT_FOUND)
@@ -168,7 +126,7 @@ void nats_forget(struct carrier *base, unsigned shard, const char *session)
     char text[96];
     natsStatus status;
     write_whole(text, sizeof text, "{\"filter\":\"krbr.%u.%s\"}", shard, session);
-    status = natsConnection_PublishString(c->connection, "$JS.API.STREAM.PURGE." STREAM, text);
+    status = natsConnection_PublishString(c->connection, "$JS.API.STREAM.PURGE." NATS_RECEIPTS_NAME, text);
     if (status != NATS_OK)
         (void)nats_report("a receipt", status); /* CARRIER_FAULT, as for each fault */
 }

@@ -7,6 +7,7 @@
 #include <stdio.h>
 #include <stdlib.h>
 #include <string.h>
+#include <time.h>
 
 #define NO_STREAM "\"err_code\":10059" /* what an answer says where there is no such stream */
 
@@ -74,34 +75,34 @@ void nats_read_description(natsMsg *message, char text[NATS_TEXT])
     unescape(text);
 }
 
-/* Days from 1970 to a day of the Gregorian calendar. */
-static int64_t days_to(int64_t year, int64_t month, int64_t day)
-{
-    int64_t of_year = year - (month <= 2), months = (month + 9) % 12;
-    return 365 * of_year + of_year / 4 - of_year / 100 + of_year / 400 + (153 * months + 2) / 5 + day - 719469;
-}
-
 /* When a stream was made, in nanoseconds since 1970; 0 if the answer doesn't tell. */
 static uint64_t read_created(natsMsg *message)
 {
-    unsigned year, month, day, hour, minute, second;
+    struct tm at = { 0 };
     char text[40];
     uint64_t nanosecond = 0, unit = 100000000;
     size_t left = 0;
     const char *place = after(message, "\"created\":\"", &left), *digit;
-    int used = 0;
     write_cut(text, sizeof text, "%.*s", (int)(left < sizeof text ? left : sizeof text - 1), place ? place : "");
-    if (sscanf(text, "%4u-%2u-%2uT%2u:%2u:%2u%n", &year, &month, &day, &hour, &minute, &second, &used) != 6)
+    digit = strptime(text, "%Y-%m-%dT%H:%M:%S", &at);
+    if (digit == NULL)
         return 0;
-    for (digit = text + used + (text[used] == '.'); *digit >= '0' && *digit <= '9'; digit++) {
+    for (digit += *digit == '.'; *digit >= '0' && *digit <= '9'; digit++) {
         nanosecond += (uint64_t)(*digit - '0') * unit;
         unit /= 10;
     }
-    return ((uint64_t)days_to(year, month, day) * 86400 + hour * 3600 + minute * 60 + second) * 1000000000
-           + nanosecond;
+    return (uint64_t)timegm(&at) * 1000000000 + nanosecond;
 }
 
 /* ---- Streams */
+
+void nats_name_stream(unsigned stream, char name[NATS_NAME])
+{
+    if (stream == NATS_RECEIPTS)
+        strcpy(name, NATS_RECEIPTS_NAME);
+    else
+        write_whole(name, NATS_NAME, "KRB_%u", stream);
+}
 
 natsStatus nats_read_stream(natsMsg *answer, struct nats_stream *it)
 {
@@ -152,13 +153,16 @@ void nats_ask(struct nats_carrier *c, const char *what, const char *stream, cons
         nats_report("a stream", status);
 }
 
-void nats_write_stream(const struct nats_carrier *c, const char *stream, const char *subject, int of_subject,
-                       char text[NATS_TEXT])
+void nats_write_stream(const struct nats_carrier *c, unsigned stream, char text[NATS_TEXT])
 {
+    char name[NATS_NAME], subjects[NATS_NAME] = NATS_RECEIPTS_SUBJECTS;
+    nats_name_stream(stream, name);
+    if (stream != NATS_RECEIPTS)
+        write_whole(subjects, sizeof subjects, "krb.%u.*", stream);
     write_whole(text, NATS_TEXT, "{\"name\":\"%s\",\"subjects\":[\"%s\"],\"retention\":\"limits\","
                 "\"max_consumers\":-1,\"max_msgs\":-1,\"max_bytes\":-1,\"discard\":\"old\",\"max_age\":0,"
-                "\"max_msgs_per_subject\":%d,\"storage\":\"file\",\"num_replicas\":%u}", stream, subject, of_subject,
-                c->replicas);
+                "\"max_msgs_per_subject\":%d,\"storage\":\"file\",\"num_replicas\":%u}", name, subjects,
+                stream == NATS_RECEIPTS ? 1 : -1, c->replicas);
 }
 
 /* ---- Questions that are waited for */

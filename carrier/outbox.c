@@ -74,8 +74,7 @@ static const char *const columns[][2] = {
 static const char *const sql[OUTBOX_STATEMENTS] = {
     [LOAD_SESSION] = ("SELECT next, carried, at, incarnation, shard, iif(done < 0, carried, done),"
                       " history, stands FROM session WHERE name = ?"),
-    [SELECT_TEXTS] = ("SELECT id, session, body FROM text WHERE id > ? AND id <= ? ORDER BY id"
-                      " LIMIT ?"),
+    [SELECT_TEXTS] = "SELECT id, session, body FROM text WHERE id > ? ORDER BY id LIMIT ?",
     [SELECT_WAITING] = ("SELECT id, session, body FROM text WHERE session = ? AND id <= ? ORDER BY id"
                         " LIMIT ?"),
     [HAS_TEXT] = "SELECT 1 FROM text WHERE id > ? LIMIT 1",
@@ -302,15 +301,15 @@ enum outbox_answer outbox_set_renewed(struct outbox *o, uint64_t second)
     return OUTBOX_AGAIN;
 }
 
-void outbox_select_texts(struct outbox *o, sqlite3_int64 after, sqlite3_int64 to, size_t limit)
+struct statement *outbox_select_texts(struct outbox *o, sqlite3_int64 after, size_t limit)
 {
-    bind_number(&o->statements[SELECT_TEXTS], 1, after);
-    bind_number(&o->statements[SELECT_TEXTS], 2, to);
-    bind_number(&o->statements[SELECT_TEXTS], 3, (sqlite3_int64)limit);
+    struct statement *select = &o->statements[SELECT_TEXTS];
+    bind_number(select, 1, after);
+    bind_number(select, 2, (sqlite3_int64)limit);
+    return select;
 }
 
-/* The next row of texts. */
-static int next_text(struct statement *select, struct waiting_text *text)
+int outbox_next_text(struct statement *select, struct waiting_text *text)
 {
     int row = step_row(select);
     if (row != 1)
@@ -324,31 +323,13 @@ static int next_text(struct statement *select, struct waiting_text *text)
     return text->session != NULL ? 1 : -1;
 }
 
-int outbox_next_text(struct outbox *o, struct waiting_text *text)
+struct statement *outbox_select_waiting(struct outbox *o, const char *name, sqlite3_int64 to, size_t limit)
 {
-    return next_text(&o->statements[SELECT_TEXTS], text);
-}
-
-void outbox_end_texts(struct outbox *o)
-{
-    end_rows(&o->statements[SELECT_TEXTS]);
-}
-
-void outbox_select_waiting(struct outbox *o, const char *name, sqlite3_int64 to, size_t limit)
-{
-    bind_text(&o->statements[SELECT_WAITING], 1, name);
-    bind_number(&o->statements[SELECT_WAITING], 2, to);
-    bind_number(&o->statements[SELECT_WAITING], 3, (sqlite3_int64)limit);
-}
-
-int outbox_next_waiting(struct outbox *o, struct waiting_text *text)
-{
-    return next_text(&o->statements[SELECT_WAITING], text);
-}
-
-void outbox_end_waiting(struct outbox *o)
-{
-    end_rows(&o->statements[SELECT_WAITING]);
+    struct statement *select = &o->statements[SELECT_WAITING];
+    bind_text(select, 1, name);
+    bind_number(select, 2, to);
+    bind_number(select, 3, (sqlite3_int64)limit);
+    return select;
 }
 
 int outbox_drop_texts(struct outbox *o, sqlite3_int64 first, sqlite3_int64 last)

@@ -104,17 +104,12 @@ uint64_t outbox_count_stopped(struct outbox *outbox);
  * another process is the owner. */
 enum outbox_answer outbox_begin(struct outbox *outbox);
 
-/* Begins with the texts after one of them, up to another, so many at most; each call of
- * outbox_next_text gives one: 1, 0 after the last, -1 after a fault. */
-void outbox_select_texts(struct outbox *outbox, sqlite3_int64 after, sqlite3_int64 to,
-                         size_t limit);
-int outbox_next_text(struct outbox *outbox, struct waiting_text *text);
-void outbox_end_texts(struct outbox *outbox);
+/* Begins with the texts after one of them, so many at most; or with those under this name up to one of them. Each call
+ * of outbox_next_text gives one, the oldest first: 1, 0 after the last, -1 after a fault. The caller ends the rows. */
+struct statement *outbox_select_texts(struct outbox *outbox, sqlite3_int64 after, size_t limit);
+struct statement *outbox_select_waiting(struct outbox *outbox, const char *name, sqlite3_int64 to, size_t limit);
+int outbox_next_text(struct statement *select, struct waiting_text *text);
 
-/* The same of the texts under this name up to one of them, the oldest first. */
-void outbox_select_waiting(struct outbox *outbox, const char *name, sqlite3_int64 to, size_t limit);
-int outbox_next_waiting(struct outbox *outbox, struct waiting_text *text);
-void outbox_end_waiting(struct outbox *outbox);
 int outbox_drop_texts(struct outbox *outbox, sqlite3_int64 first, sqlite3_int64 last);
 
 /* Adds a frame, with the history of the session up to it. What is added can be read once outbox_insert was called, or the

@@ -49,19 +49,12 @@ static int count_anew(struct sender *s, struct sending *it)
     return !settled && it->stopped_at != 1;
 }
 
-static void note_sealable(struct sender *s, struct sending *it)
-{
-    if (!it->has_texts || it->room < STORED / 2 || it->is_sealable)
-        return;
-    it->is_sealable = 1;
-    s->sealable.at[s->sealable.count++] = it;
-}
-
 void publish_note(struct sender *s, struct sending *it)
 {
     struct lane *lane = &s->lanes[it->lane];
     int has_work = count_anew(s, it);
-    note_sealable(s, it);
+    if (it->has_texts && it->room >= STORED / 2)
+        list_add(&s->sealable, it, &it->is_sealable);
     if (has_work && krbrelay_queue_ready(&lane->queue, it->place) != KRBRELAY_OK)
         log_system("out_of_memory", "sender"); /* its next event makes it ready */
 }
@@ -140,7 +133,7 @@ static void note_untaken(struct sender *s, struct sending *it, int answer, uint6
 
 static int publish(struct sender *s, struct sending *it, uint64_t number, const uint8_t *frame, size_t len)
 {
-    int answer = carrier_publish(s->carrier, it->of.shard, it->of.name, it->tag, number, frame, len);
+    int answer = s->carrier->publish(s->carrier, it->of.shard, it->of.name, it->tag, number, frame, len);
     s->published += answer == 0;
     if (answer != 0)
         note_untaken(s, it, answer, number);
@@ -232,7 +225,7 @@ static void tell_list(struct sender *s, struct sending *it, const struct lane *l
     uint32_t other = 0;
     if (krbrelay_sending_listed(&it->end, lane->flow.list, &other) != KRBRELAY_OK || !other)
         return;
-    sender_note_dirty(s, it);
+    list_add(&s->dirty, it, &it->is_dirty);
     if (before != 0 || it->kept.shard != (int32_t)it->of.shard)
         log_fact(LEVEL_WARNING, "session_elsewhere", field_text("session", it->of.name),
                  field_number("shard", it->of.shard),
@@ -268,7 +261,7 @@ static uint64_t serve(struct sender *s, struct sending *it)
 static void find_list(struct sender *s, struct lane *lane)
 {
     uint64_t list = 0;
-    int has_list = carrier_make(s->carrier, lane->shard, &list) == 0 && list != 0;
+    int has_list = s->carrier->make(s->carrier, lane->shard, &list) == 0 && list != 0;
     size_t i;
     if (has_list == (int)lane->flow.has_list && (!has_list || list == lane->flow.list))
         return;
@@ -343,7 +336,7 @@ static void note_next(struct sender *s, const struct sending *it)
 /* Frames of a session are carried. */
 static void note_carried(struct sender *s, struct sending *it)
 {
-    sender_note_dirty(s, it);
+    list_add(&s->dirty, it, &it->is_dirty);
     publish_note(s, it);
     note_next(s, it);
 }
@@ -354,7 +347,7 @@ size_t publish_count_carried(struct sender *s, int milliseconds_to_wait)
     struct confirmed list[COUNTED];
     struct sending *last = NULL;
     size_t rose = 0;
-    int i, found = carrier_confirmed(s->carrier, list, COUNTED, milliseconds_to_wait);
+    int i, found = s->carrier->confirmed(s->carrier, list, COUNTED, milliseconds_to_wait);
     uint64_t now = milliseconds();
     for (i = 0; i < found; i++) {
         struct sending *it = of_tag(s, list[i].tag);

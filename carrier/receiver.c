@@ -108,7 +108,7 @@ static void leave_shards(unsigned count)
 {
     unsigned shard;
     for (shard = 0; shard < CARRIER_SHARDS; shard++) {
-        int is_own = is_wanted(shard) && sharing_has(sharing, shard);
+        int is_own = is_wanted(shard) && sharing->has[shard];
         if (serving_state(shard) != SHARD_SERVED || (is_own && count == 0))
             continue;
         serving_leave(shard);
@@ -121,7 +121,7 @@ static void give_back_shards(void)
 {
     unsigned shard;
     for (shard = 0; shard < CARRIER_SHARDS; shard++) {
-        if (serving_state(shard) != SHARD_IDLE || !sharing_has(sharing, shard))
+        if (serving_state(shard) != SHARD_IDLE || !sharing->has[shard])
             continue;
         is_closed[shard] = (unsigned char)serving_has_closed(shard);
         sharing_give_back(sharing, shard);
@@ -141,7 +141,7 @@ static int is_answered(void)
         if (is_wanted(shard) && serving_state(shard) != SHARD_SERVED)
             break;
     }
-    return !carrier_is_away(look) && carrier_incarnation(look, shard, &list, &end) == 0;
+    return !look->is_away(look) && look->incarnation(look, shard, &list, &end) == 0;
 }
 
 /* Looks whether it is cut off from the carrier, where another receiver may not be: 1 if that has changed. */
@@ -150,7 +150,7 @@ static int look_at_carrier(int receivers)
     int was = is_cut_off;
     if (was || (receivers > 1 && serving_is_unanswered()))
         is_cut_off = !is_answered();
-    sharing_cut_off(sharing, is_cut_off);
+    sharing->is_cut_off = is_cut_off;
     if (is_cut_off == was)
         return 0;
     if (is_cut_off)
@@ -185,7 +185,7 @@ static void report_shared(int receivers)
 /* Each receiver serves the same part of the shards, rounded up. */
 static void share(void)
 {
-    int receivers = sharing_count(sharing);
+    int receivers = sharing->calls->count(sharing);
     unsigned part = 0, served;
     show_sharing();
     if (receivers < !is_cut_off || (look_at_carrier(receivers) && !is_cut_off))
@@ -279,9 +279,9 @@ static int work(void)
         is_fine = !serving_failed();
     }
     if (sharing != NULL)
-        sharing_close(sharing);
+        sharing->calls->close(sharing);
     if (look != NULL)
-        carrier_close(look);
+        look->close(look);
     serving_end();
     service_end();
     return !is_fine;

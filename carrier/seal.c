@@ -31,7 +31,7 @@ static int draw(uint8_t confounder[16])
 static enum seal_answer stop(struct sealing *s, struct sending *it, sqlite3_int64 at, const char *reason)
 {
     it->stopped_at = at;
-    write_cut(it->reason, sizeof it->reason, "%s", reason);
+    copy_cut(it->reason, sizeof it->reason, reason);
     s->stopped = it;
     return SEAL_STOP;
 }

@@ -80,13 +80,6 @@ enum outbox_answer sender_end_stop(struct sender *s, const char *session)
     return OUTBOX_AGAIN;
 }
 
-void sender_note_dirty(struct sender *s, struct sending *it)
-{
-    if (!it->is_dirty)
-        s->dirty.at[s->dirty.count++] = it;
-    it->is_dirty = 1;
-}
-
 /* ---- What is stored, in one transaction */
 
 /* Stores a session that begins by a ticket, and that it is closed. */
@@ -154,11 +147,12 @@ static void note_kept(struct sender *s)
 {
     size_t i;
     for (i = 0; i < s->ended.count; i++)
-        carrier_forget(s->carrier, s->ended.at[i].shard, s->ended.at[i].name);
+        s->carrier->forget(s->carrier, s->ended.at[i].shard, s->ended.at[i].name);
     s->ended.count = 0;
     for (i = 0; i < s->dirty.count; i++) {
-        s->dirty.at[i]->kept = s->dirty.at[i]->next_kept;
-        s->dirty.at[i]->is_dirty = 0;
+        struct sending *it = s->dirty.at[i];
+        it->kept = it->next_kept;
+        it->is_dirty = 0;
     }
     s->dirty.count = 0;
     for (i = 0; i < s->touched.count; i++) {
@@ -229,7 +223,7 @@ static enum outbox_answer store(struct sender *s, int with_texts)
 static void report_silence(struct sender *s, size_t rose)
 {
     uint64_t backlog = s->uncarried, now = nanoseconds();
-    if (rose > 0 || (backlog == 0 && !carrier_is_away(s->carrier)))
+    if (rose > 0 || (backlog == 0 && !s->carrier->is_away(s->carrier)))
         s->rose = now;
     if (rose > 0 || backlog == 0)
         s->told = now;
@@ -358,7 +352,7 @@ static enum outbox_answer look(struct sender *s)
     service_tell_alive();
     if (!outbox_is_owned(&s->outbox))
         return OUTBOX_TAKEN;
-    if (!outbox_is_there(&s->outbox) || carrier_is_closed(s->carrier))
+    if (!outbox_is_there(&s->outbox) || s->carrier->is_closed(s->carrier))
         return OUTBOX_FAULT; /* which is reported: a unit starts this program again */
     answer = keep_stands(s);
     if (answer == OUTBOX_OK)
@@ -498,7 +492,7 @@ static void stop(struct sender *s)
         kerberos_close(s->kerberos);
     free(s->opening);
     if (s->carrier != NULL)
-        carrier_close(s->carrier);
+        s->carrier->close(s->carrier);
     sessions_forget(s->sessions);
     sessions_forget(s->newer);
     seal_end(&s->sealing);

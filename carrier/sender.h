@@ -15,6 +15,7 @@
 #ifndef SENDER_H
 #define SENDER_H
 
+#include "list.h"
 #include "seal.h"
 #include "tickets.h"
 
@@ -26,9 +27,6 @@ struct options {
     unsigned batch, most_waiting;
     int drain;
 };
-
-/* Sessions; each is once in it. */
-struct list { struct sending **at; size_t count, room; };
 
 /* A shard. */
 struct lane {
@@ -64,7 +62,7 @@ struct sender {
     struct carrier *carrier;
     struct sessions *sessions;  /* the file, */
     struct sessions *newer;     /* and what it is now, before that is used, or NULL */
-    struct list all;            /* all that are loaded, in the order of their tags */
+    struct list all;            /* all sessions that are loaded, in the order of their tags; some of them: */
     void *by_name;              /* tsearch's tree of them */
     uint32_t first_tag;         /* of the first; those of confirmations below are of the past */
     struct lane lanes[CARRIER_SHARDS];
@@ -105,23 +103,14 @@ enum outbox_answer sender_stop(struct sender *s, const char *session, const char
 /* It isn't any more: the outbox says so, in a transaction of its own. */
 enum outbox_answer sender_end_stop(struct sender *s, const char *session);
 
-/* Its progress is to be stored with the next transaction. */
-void sender_note_dirty(struct sender *s, struct sending *it);
-
 /* ---- sender_sessions.c */
 
 /* Adds a session, as the outbox has it. NULL after a fault of the outbox, or out of memory. */
 struct sending *sender_add(struct sender *s, const struct session *of);
 
-/* The place of the lane of a shard, which is made with its first session. */
-size_t sender_lane(struct sender *s, unsigned shard);
-
 /* The session that takes the texts of this name: 1, 0 if there is none, -1 after a fault. In a
  * transaction. */
 int sender_find(struct sender *s, const char *name, struct sending **it);
-
-/* Room for one session more in a list: 1, or 0 if there is no memory. */
-int sender_grow(struct list *list, size_t count);
 
 /* Makes a session what the outbox has. */
 int sender_load(struct sender *s, struct sending *it);

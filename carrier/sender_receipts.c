@@ -58,7 +58,7 @@ static void take(struct sender *s, struct sending *it, const uint8_t *bytes, siz
     }
     if (heard == KRBRELAY_HEARD_DELIVERED) {
         s->receipts++;
-        sender_note_dirty(s, it);
+        list_add(&s->dirty, it, &it->is_dirty);
     }
     publish_note(s, it);
 }
@@ -125,6 +125,6 @@ void receipts_hear(struct sender *s)
     if (nanoseconds() - s->heard < PAUSE)
         return;
     s->heard = nanoseconds();
-    if (carrier_receipts(s->carrier, hear, s) != 0)
+    if (s->carrier->receipts(s->carrier, hear, s) != 0)
         s->heard += UINT64_C(1000000000); /* which is reported */
 }

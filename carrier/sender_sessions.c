@@ -9,32 +9,19 @@
 #include <stdlib.h>
 #include <string.h>
 
-int sender_grow(struct list *list, size_t count)
-{
-    size_t room = 2 * list->room + 64;
-    struct sending **more;
-    if (count < list->room)
-        return 1;
-    more = realloc(list->at, room * sizeof *more);
-    if (more == NULL)
-        return 0;
-    list->at = more;
-    list->room = room;
-    return 1;
-}
-
 /* Room for one more session in each list. */
 static int grow(struct sender *s, struct lane *lane)
 {
     struct list *const lists[] = { &s->all, &s->touched, &s->dirty, &s->sealable, &s->untold };
     size_t i;
     for (i = 0; i < sizeof lists / sizeof *lists; i++)
-        if (!sender_grow(lists[i], s->all.count))
+        if (!list_grow(lists[i], s->all.count))
             return 0;
-    return sender_grow(&lane->members, lane->members.count);
+    return list_grow(&lane->members, lane->members.count);
 }
 
-size_t sender_lane(struct sender *s, unsigned shard)
+/* The place of the lane of a shard, which is made with its first session. */
+static size_t lane_of(struct sender *s, unsigned shard)
 {
     size_t *lane = &s->lane_of[shard];
     if (*lane == 0) {
@@ -56,7 +43,7 @@ static void free_sending(struct sending *it)
 
 struct sending *sender_add(struct sender *s, const struct session *of)
 {
-    size_t place = sender_lane(s, of->shard);
+    size_t place = lane_of(s, of->shard);
     struct lane *lane = &s->lanes[place];
     struct sending *it = grow(s, lane) ? calloc(1, sizeof *it) : NULL;
     if (it == NULL)
@@ -155,12 +142,6 @@ static void keep(void *given)
     (void)given;
 }
 
-static void forget_list(struct list *list)
-{
-    free(list->at);
-    *list = (struct list){ NULL, 0, 0 };
-}
-
 void sender_forget(struct sender *s)
 {
     size_t i;
@@ -171,15 +152,15 @@ void sender_forget(struct sender *s)
         free_sending(s->all.at[i]);
     for (i = 0; i < s->lane_count; i++) {
         krbrelay_queue_free(&s->lanes[i].queue);
-        forget_list(&s->lanes[i].members);
+        list_forget(&s->lanes[i].members);
         s->lanes[i] = (struct lane){ .shard = s->lanes[i].shard };
     }
     s->first_tag += (uint32_t)s->all.count;
-    forget_list(&s->all);
-    forget_list(&s->touched);
-    forget_list(&s->dirty);
-    forget_list(&s->sealable);
-    forget_list(&s->untold);
+    list_forget(&s->all);
+    list_forget(&s->touched);
+    list_forget(&s->dirty);
+    list_forget(&s->sealable);
+    list_forget(&s->untold);
     free(s->wakes);
     s->wakes = NULL;
     s->wake_count = s->wake_room = s->held = 0;

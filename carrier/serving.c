@@ -113,7 +113,7 @@ static void serve(struct thread *it)
         if (shard->counts.accepted == 0 && count == 0)
             began = nanoseconds();
         if (nanoseconds() - reported > SECOND) {
-            if (carrier_is_closed(shard->carrier))
+            if (shard->carrier->is_closed(shard->carrier))
                 fail();
             report(shard, began, &before);
             reported = nanoseconds();

@@ -85,27 +85,19 @@ static int read_name(const char *word, char name[CARRIER_NAME])
     return 1;
 }
 
-static int is_space(char it)
-{
-    return it == ' ' || it == '\t' || it == '\r';
-}
-
 /* The words of a line, each of which ends by a zero then, and how many there are; 0 if that are too
  * many. */
 static int split(char *line, char *words[WORDS])
 {
+    static const char space[] = " \t\r";
+    char *rest = NULL, *word;
     int count = 0;
-    for (;;) {
-        while (is_space(*line))
-            *line++ = 0;
-        if (*line == 0)
-            return count;
+    for (word = strtok_r(line, space, &rest); word != NULL; word = strtok_r(NULL, space, &rest)) {
         if (count == WORDS)
             return 0;
-        words[count++] = line;
-        while (*line != 0 && !is_space(*line))
-            line++;
+        words[count++] = word;
     }
+    return count;
 }
 
 static int read_words(char *const words[WORDS], int count, struct session *it)

@@ -66,24 +66,7 @@ static int look(struct shard *s, struct receiving *of, const struct carried *it,
 /* The session's row is to be compared and moved. */
 static void note_changed(struct shard *s, struct receiving *it)
 {
-    if (!it->is_changed)
-        s->changed.at[s->changed.count++] = it;
-    it->is_changed = 1;
-}
-
-/* A frame of it was taken in this transaction. */
-static void note_taken(struct shard *s, struct receiving *it)
-{
-    if (!it->is_taken)
-        s->taken.at[s->taken.count++] = it;
-    it->is_taken = 1;
-}
-
-static void stands(struct shard *s, struct receiving *it)
-{
-    if (!it->is_standing)
-        s->standing.at[s->standing.count++] = it;
-    it->is_standing = 1;
+    list_add(&s->changed, it, &it->is_changed);
 }
 
 static void goes_on(struct shard *s, struct receiving *it)
@@ -146,7 +129,7 @@ static void note_unaccepted(struct shard *s, struct receiving *of, const struct 
     if (outcome == KRBRELAY_OUTCOME_UNSETTLED)
         note_missed(s, of, missed_by(answer));
     if (outcome != KRBRELAY_OUTCOME_UNKNOWN || !of->has_opened) /* else it is nobody's */
-        stands(s, of);
+        list_add(&s->standing, of, &of->is_standing);
 }
 
 /* Whether a refused frame is the session's, and its number: 1, 0 or -1 as `look` answers. One that passes all
@@ -315,7 +298,7 @@ static int take_before_turn(struct shard *s, struct receiving *of, const struct 
     if (krbrelay_receiving_take(&of->end, it->frame, it->len, &seen, &outcome) != KRBRELAY_OK)
         return -1;
     note_missed(s, of, MISSED_EARLY);
-    stands(s, of);
+    list_add(&s->standing, of, &of->is_standing);
     return 0;
 }
 
@@ -334,7 +317,7 @@ static int take(struct shard *s, struct receiving *of, const struct carried *it)
     uint32_t kind = 0;
     size_t size = 0;
     int done;
-    note_taken(s, of);
+    list_add(&s->taken, of, &of->is_taken);
     if (of->opened != NULL && opening_is(it->frame, it->len))
         return take_opening(s, of, it);
     if (is_before_turn(s, of))
@@ -393,7 +376,7 @@ static int note_stored(struct shard *s)
         it->is_taken = 0;
         answer = krbrelay_receiving_stored(&it->end) == KRBRELAY_OK ? 0 : -1;
         if (it->end.owed != 0)
-            shard_owe(s, it);
+            list_add(&s->owing, it, &it->is_owing);
     }
     s->changed.count = s->taken.count = s->news.count = 0;
     return answer;
@@ -420,9 +403,9 @@ static int take_all(struct shard *s, int count)
     if (answer == 0)
         answer = advance_all(s);
     if (answer == 0)
-        answer = store_commit(s->store);
+        answer = s->store->commit(s->store);
     else
-        store_rollback(s->store);
+        s->store->rollback(s->store);
     s->counts.storing += lap(s);
     s->counts.commits += answer == 0;
     s->counts.aside += answer == 0 ? s->aside : 0;
@@ -439,7 +422,7 @@ static int take_all(struct shard *s, int count)
 static void close_store(struct shard *s)
 {
     if (s->store != NULL)
-        store_close(s->store);
+        s->store->close(s->store);
     s->store = NULL;
     s->is_loaded = 0;
 }
@@ -462,7 +445,7 @@ static int fetch(struct shard *s, int milliseconds)
     struct krbrelay_reading *reading = &s->reading;
     uint64_t began = nanoseconds(), last;
     uint32_t read = KRBRELAY_READ_NOTHING;
-    int count = carrier_fetch(s->carrier, s->frames, s->options->batch, milliseconds);
+    int count = s->carrier->fetch(s->carrier, s->frames, s->options->batch, milliseconds);
     if (count >= 0)
         s->answered = nanoseconds();
     if (count == CARRIER_CHANGED)
@@ -489,7 +472,7 @@ static void look_at_list(struct shard *s)
     uint64_t list = 0, end = 0;
     uint32_t read = KRBRELAY_READ_NOTHING;
     s->looked = nanoseconds();
-    if (carrier_incarnation(s->carrier, s->number, &list, &end) == 0 && list != 0
+    if (s->carrier->incarnation(s->carrier, s->number, &list, &end) == 0 && list != 0
         && krbrelay_reading_frames(&now, list, end, 0, &read) == KRBRELAY_OK && read == KRBRELAY_READ_ELSEWHERE)
         s->is_loaded = 0;
 }
@@ -565,7 +548,7 @@ void shard_stop(struct shard *s)
     sessions_forget(s->sessions);
     close_store(s);
     if (s->carrier != NULL)
-        carrier_close(s->carrier);
+        s->carrier->close(s->carrier);
     if (s->kerberos != NULL)
         kerberos_close(s->kerberos);
     if (s->bytes != NULL)

@@ -18,6 +18,7 @@
 #define SHARD_H
 
 #include "carrier.h"
+#include "list.h"
 #include "opening.h"
 #include "service.h"
 #include "sessions.h"
@@ -73,9 +74,6 @@ struct shard_counts {
     uint64_t opening, fetching, storing; /* nanoseconds */
 };
 
-/* Some of a shard's sessions. */
-struct receivings { struct receiving **at; size_t count; };
-
 struct shard {
     const struct shard_options *options;
     struct sessions *sessions;     /* the file, of which this is a user */
@@ -84,17 +82,16 @@ struct shard {
     struct store *store;           /* NULL: it has to be opened (again) */
     struct carrier *carrier;
     void *receivings;              /* tsearch's tree of a struct receiving for each session */
-    size_t count, room;            /* so many there are, and those below have room in these: */
-    struct receivings changed, taken, owing, standing; /* in which each is once */
+    size_t count;                  /* so many there are, and these lists have room for: */
+    struct list changed, taken, owing, standing;
     unsigned long aside;           /* texts that this transaction puts aside */
     size_t ended;                  /* so many of them are closed */
-    struct receivings asked;       /* those of which the store is asked */
-    const char **names;            /* of those */
+    struct list asked;             /* those of which the store is asked, */
+    struct list news;              /* and those whose openings this transaction takes */
     struct carried *frames;
     struct receiving **of_frames;  /* of each frame the session, or NULL */
     struct krbrelay_reading reading; /* how far it was read, as stored and as taken: krb_engine's */
     int has_wrapped;               /* keys that are stored are wrapped under the newest one */
-    struct receivings news;        /* those whose openings this transaction takes */
     char unknown[CARRIER_NAME];    /* the last name that the store was asked for in vain */
     struct krbrelay_moment moment; /* when this transaction's frames are taken */
     uint64_t lap;                  /* up to when its time was counted */
@@ -166,8 +163,7 @@ uint32_t shard_judge(struct shard *shard, const struct receiving *of);
 
 /* ---- shard_receipts.c */
 
-/* The session may owe a receipt; all receipts that are due are sealed and published; none is owed. */
-void shard_owe(struct shard *shard, struct receiving *it);
+/* All receipts that are due are sealed and published; none is owed. */
 void shard_pay(struct shard *shard);
 void shard_pay_rest(struct shard *shard); /* before it ends: however short the time is */
 void shard_owe_nothing(struct shard *shard);

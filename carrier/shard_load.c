@@ -26,29 +26,24 @@ static void free_receiving(void *given)
     free(it);
 }
 
-static int grow_list(struct receivings *list, size_t room)
+enum { LISTS = 6 };
+
+/* Its lists, in each of which all sessions have room. */
+static void lists_of(struct shard *s, struct list *lists[LISTS])
 {
-    struct receiving **more = realloc(list->at, room * sizeof *more);
-    if (more == NULL)
-        return 0;
-    list->at = more;
-    return 1;
+    struct list *const all[LISTS] = { &s->changed, &s->taken, &s->owing, &s->standing, &s->asked, &s->news };
+    memcpy(lists, all, sizeof all);
 }
 
 /* Room for one more session in each list. */
 static int grow(struct shard *s)
 {
-    size_t room = 2 * s->room + 64;
-    const char **names;
-    if (s->count < s->room)
-        return 1;
-    if (!grow_list(&s->changed, room) || !grow_list(&s->standing, room)
-        || !grow_list(&s->asked, room) || !grow_list(&s->news, room)
-        || !grow_list(&s->owing, room) || !grow_list(&s->taken, room)
-        || (names = realloc(s->names, room * sizeof *names)) == NULL)
-        return 0;
-    s->names = names;
-    s->room = room;
+    struct list *lists[LISTS];
+    size_t i;
+    lists_of(s, lists);
+    for (i = 0; i < LISTS; i++)
+        if (!list_grow(lists[i], s->count))
+            return 0;
     return 1;
 }
 
@@ -86,18 +81,14 @@ int shard_find(struct shard *s, const char *name, struct receiving **it)
 
 void shard_forget(struct shard *s)
 {
+    struct list *lists[LISTS];
+    size_t i;
+    lists_of(s, lists);
     tdestroy(s->receivings, free_receiving);
     s->receivings = NULL;
-    free(s->changed.at);
-    free(s->standing.at);
-    free(s->asked.at);
-    free(s->news.at);
-    free(s->owing.at);
-    free(s->taken.at);
-    free(s->names);
-    s->changed = s->standing = s->asked = s->news = s->owing = s->taken = (struct receivings){ NULL, 0 };
-    s->names = NULL;
-    s->count = s->room = s->ended = 0;
+    for (i = 0; i < LISTS; i++)
+        list_forget(lists[i]);
+    s->count = s->ended = 0;
 }
 
 /* ---- What the store has of them */
@@ -111,7 +102,6 @@ static void ask(struct shard *s, struct receiving *it)
     it->stored = (struct demand){ .next = it->of.first, .shard = (int32_t)s->number,
                                   .history = { .is_known = 1 } }; /* of no frames */
     it->is_made = 0;
-    s->names[s->asked.count] = it->of.name;
     s->asked.at[s->asked.count++] = it;
 }
 
@@ -170,13 +160,17 @@ static void place_session(const struct shard *s, struct receiving *it)
 /* Asks the store of the sessions that are noted for it. */
 static int ask_store(struct shard *s)
 {
-    size_t from, count;
-    for (from = 0; from < s->asked.count; from += count) {
-        count = s->asked.count - from < TOGETHER ? s->asked.count - from : TOGETHER;
-        if (store_sessions(s->store, s->names + from, count, note_stored, s) != 0)
-            return -1;
+    const char *names[TOGETHER];
+    size_t i, count = 0;
+    int answer = 0;
+    for (i = 0; i < s->asked.count && answer == 0; i++) {
+        names[count++] = ((struct receiving *)s->asked.at[i])->of.name;
+        if (count < TOGETHER && i + 1 < s->asked.count)
+            continue;
+        answer = store_sessions(s->store, names, count, note_stored, s);
+        count = 0;
     }
-    return 0;
+    return answer;
 }
 
 /* Asks the store of a session, and of the one before it, for which it may wait: that one is looked for with each
@@ -223,9 +217,9 @@ static void begin_turn(struct shard *s)
     size_t i;
     s->turn++;
     for (i = 0; i < s->changed.count; i++)
-        s->changed.at[i]->is_changed = 0;
+        ((struct receiving *)s->changed.at[i])->is_changed = 0;
     for (i = 0; i < s->taken.count; i++)
-        s->taken.at[i]->is_taken = 0;
+        ((struct receiving *)s->taken.at[i])->is_taken = 0;
     s->changed.count = s->taken.count = 0;
     shard_owe_nothing(s);
 }
@@ -288,13 +282,13 @@ int shard_load(struct shard *s)
         || (s->options->until_closed && count_open(s) != 0))
         return -1;
     krbrelay_reading_load(&s->reading, reached.incarnation, reached.offset);
-    if (carrier_incarnation(s->carrier, s->number, &list, &end) != 0 || list == 0)
+    if (s->carrier->incarnation(s->carrier, s->number, &list, &end) != 0 || list == 0)
         return 1;
     if (s->kerberos != NULL && !s->has_wrapped) /* without the keytab others go on */
         s->has_wrapped = kept_wrap_anew(s->store, s->kerberos, s->number) == 0;
     if (place_reading(s, list, end) != 0)
         return -1;
-    carrier_seek(s->carrier, s->number, s->reading.read.offset);
+    s->carrier->seek(s->carrier, s->number, s->reading.read.offset);
     s->is_loaded = 1;
     return 0;
 }

@@ -134,7 +134,7 @@ static int is_rival(struct shard *s, const struct opened *it)
 {
     size_t i;
     for (i = 0; i < s->news.count; i++) {
-        const struct opened *other = s->news.at[i]->opened;
+        const struct opened *other = ((struct receiving *)s->news.at[i])->opened;
         if (strcmp(other->client, it->client) == 0 && strcmp(other->stream, it->stream) == 0
             && strcmp(other->before, it->before) == 0)
             return 1;

@@ -8,13 +8,6 @@
 
 enum { TOGETHER = 64, LATER = 1000 }; /* receipts that are published at once; milliseconds */
 
-void shard_owe(struct shard *s, struct receiving *it)
-{
-    if (!it->is_owing)
-        s->owing.at[s->owing.count++] = it;
-    it->is_owing = 1;
-}
-
 /* Seals a receipt: 1, or 0 after a fault, which is reported. */
 static int seal(const struct receiving *it, const struct krbrelay_receipt *due, struct carried *to,
                 uint8_t frame[RECEIPT])
@@ -65,7 +58,7 @@ static void owe_again(struct shard *s, const struct sealed *it)
     size_t i;
     for (i = 0; i < it->count; i++) {
         it->of[i]->end.owed = it->asks[i];
-        shard_owe(s, it->of[i]);
+        list_add(&s->owing, it->of[i], &it->of[i]->is_owing);
     }
 }
 
@@ -76,7 +69,7 @@ static int pay_some(struct shard *s, uint64_t now)
     seal_some(s, now, &some);
     if (some.count == 0)
         return 0;
-    if (carrier_acknowledge(s->carrier, s->number, some.list, some.count) != 0) {
+    if (s->carrier->acknowledge(s->carrier, s->number, some.list, some.count) != 0) {
         owe_again(s, &some);
         return 0;
     }
@@ -100,6 +93,6 @@ void shard_owe_nothing(struct shard *s)
 {
     size_t i;
     for (i = 0; i < s->owing.count; i++)
-        s->owing.at[i]->is_owing = 0;
+        ((struct receiving *)s->owing.at[i])->is_owing = 0;
     s->owing.count = 0;
 }

@@ -88,7 +88,7 @@ static void name_standing(struct shard *s, unsigned part)
     const char *names[SERVICE_NAMES];
     size_t i, count = 0;
     for (i = 0; i < s->standing.count && count < SERVICE_NAMES; i++)
-        names[count++] = s->standing.at[i]->of.name;
+        names[count++] = ((struct receiving *)s->standing.at[i])->of.name;
     service_name(part, names, count);
 }
 
@@ -98,7 +98,7 @@ void shard_show(struct shard *s, unsigned part)
     char labels[32];
     uint64_t behind = 0;
     unsigned i;
-    int is_known = s->is_loaded && carrier_behind(s->carrier, &behind) == 0;
+    int is_known = s->is_loaded && s->carrier->behind(s->carrier, &behind) == 0;
     double values[sizeof shard_metrics / sizeof *shard_metrics] = {
         (double)c->texts, (double)c->bytes, (double)c->aside, (double)c->accepted, (double)c->opened,
         (double)c->receipts,

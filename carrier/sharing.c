@@ -87,7 +87,7 @@ static int be_there(struct file_sharing *s, const char *path)
     return be_counted(s);
 }
 
-struct sharing *file_sharing_open(const char *path)
+static struct sharing *file_sharing_open(const char *path)
 {
     static const struct sharing_calls calls = { count, take, give_back, close_it };
     struct file_sharing *s = sharing_make(sizeof *s, &calls);
@@ -111,7 +111,7 @@ struct sharing *sharing_made(struct sharing *sharing, int is_open)
 {
     if (is_open)
         return sharing;
-    sharing_close(sharing);
+    sharing->calls->close(sharing);
     return NULL;
 }
 
@@ -128,16 +128,6 @@ struct sharing *sharing_open(const char *where)
     return NULL;
 }
 
-int sharing_count(struct sharing *sharing)
-{
-    return sharing->calls->count(sharing);
-}
-
-void sharing_cut_off(struct sharing *sharing, int is_cut_off)
-{
-    sharing->is_cut_off = is_cut_off;
-}
-
 int sharing_take(struct sharing *sharing, unsigned shard)
 {
     int answer = sharing->calls->take(sharing, shard);
@@ -145,18 +135,8 @@ int sharing_take(struct sharing *sharing, unsigned shard)
     return answer;
 }
 
-int sharing_has(const struct sharing *sharing, unsigned shard)
-{
-    return sharing->has[shard];
-}
-
 void sharing_give_back(struct sharing *sharing, unsigned shard)
 {
     sharing->has[shard] = 0;
     sharing->calls->give_back(sharing, shard);
-}
-
-void sharing_close(struct sharing *sharing)
-{
-    sharing->calls->close(sharing);
 }

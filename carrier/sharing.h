@@ -12,38 +12,34 @@
 
 #include "carrier.h"
 
-struct sharing;
+struct sharing {
+    const struct sharing_calls *calls;
+    int is_cut_off;                    /* this receiver, from the carrier: it isn't counted, as shards are for others */
+    unsigned char has[CARRIER_SHARDS]; /* whether it has a shard's lock, as far as it knows */
+};
+
+struct sharing_calls {
+    /* How many receivers share the store now, this one among them unless it is cut off; -1 if the store doesn't
+     * answer. Called each second: that says that this one is there. Locks that were lost are taken again
+     * before, unless another receiver has them. */
+    int (*count)(struct sharing *);
+
+    /* What sharing_take and sharing_give_back do. */
+    int (*take)(struct sharing *, unsigned shard);
+    void (*give_back)(struct sharing *, unsigned shard);
+
+    void (*close)(struct sharing *);
+};
 
 /* Opens it for the store of this name. NULL after a fault. */
 struct sharing *sharing_open(const char *where);
 
-/* How many receivers share the store now, this one among them unless it is cut off; -1 if the store doesn't
- * answer. Called each second: that says that this one is there. Locks that were lost are taken again
- * before, unless another receiver has them. */
-int sharing_count(struct sharing *sharing);
-
-/* Whether this receiver is cut off from the carrier, and so isn't counted: shards are for those that are. */
-void sharing_cut_off(struct sharing *sharing, int is_cut_off);
-
 /* Takes a shard, unless another receiver has it: 1, 0, or -1 if the store doesn't answer. */
 int sharing_take(struct sharing *sharing, unsigned shard);
 
-/* Whether this receiver has a shard's lock, as far as it knows. */
-int sharing_has(const struct sharing *sharing, unsigned shard);
-
 void sharing_give_back(struct sharing *sharing, unsigned shard);
 
-void sharing_close(struct sharing *sharing);
-
 /* ---- For those who write one: its first member is a struct sharing. */
-
-struct sharing_calls {
-    int (*count)(struct sharing *); /* it also has this receiver be counted, or not, as is_cut_off says */
-    int (*take)(struct sharing *, unsigned);
-    void (*give_back)(struct sharing *, unsigned);
-    void (*close)(struct sharing *);
-};
-struct sharing { const struct sharing_calls *calls; int is_cut_off; unsigned char has[CARRIER_SHARDS]; };
 
 /* Zeros of this size, but for these calls; NULL without memory. */
 void *sharing_make(size_t size, const struct sharing_calls *calls);
@@ -51,7 +47,6 @@ void *sharing_make(size_t size, const struct sharing_calls *calls);
 /* What was made, if it could be opened; else it is closed, and this is NULL. */
 struct sharing *sharing_made(struct sharing *sharing, int is_open);
 
-struct sharing *file_sharing_open(const char *path);
 struct sharing *postgresql_sharing_open(const char *where);
 
 #endif

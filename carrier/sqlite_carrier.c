@@ -165,7 +165,7 @@ static int copy_row(struct sqlite_carrier *c, const struct statement *select, st
                     size_t used)
 {
     const void *frame = sqlite3_column_blob(select->at, 2);
-    const unsigned char *session = sqlite3_column_text(select->at, 1);
+    const char *session = (const char *)sqlite3_column_text(select->at, 1);
     it->len = (size_t)sqlite3_column_bytes(select->at, 2);
     if (it->len > c->room - used) {
         uint8_t *more = used > 0 ? NULL : realloc(c->frames, it->len);
@@ -175,7 +175,7 @@ static int copy_row(struct sqlite_carrier *c, const struct statement *select, st
         c->room = it->len;
     }
     it->offset = (uint64_t)sqlite3_column_int64(select->at, 0);
-    write_cut(it->session, sizeof it->session, "%s", session != NULL ? (const char *)session : "");
+    copy_cut(it->session, sizeof it->session, session);
     it->frame = c->frames + used;
     if (it->len > 0)
         memcpy(c->frames + used, frame, it->len);
@@ -289,6 +289,13 @@ static void forget(struct carrier *base, unsigned shard, const char *session)
 
 /* ---- */
 
+/* Whether the file is away or closed. */
+static int never(struct carrier *base)
+{
+    (void)base;
+    return 0;
+}
+
 static void close_it(struct carrier *base)
 {
     struct sqlite_carrier *c = (struct sqlite_carrier *)base;
@@ -320,17 +327,8 @@ struct carrier *sqlite_carrier_open(const char *path)
     struct sqlite_carrier *c = calloc(1, sizeof *c);
     if (c == NULL)
         return NULL;
-    c->base.incarnation = incarnation;
-    c->base.make = make;
-    c->base.publish = publish;
-    c->base.confirmed = confirmed;
-    c->base.seek = seek;
-    c->base.fetch = fetch;
-    c->base.behind = behind;
-    c->base.acknowledge = acknowledge;
-    c->base.receipts = receipts;
-    c->base.forget = forget;
-    c->base.close = close_it;
+    c->base = (struct carrier){ incarnation, make, publish, confirmed, seek, fetch, behind, acknowledge, receipts, forget,
+                                never, never, close_it };
     if (open_it(c, path) == 0)
         return &c->base;
     close_it(&c->base);

@@ -9,17 +9,12 @@
 #include <stdlib.h>
 #include <string.h>
 
-enum {
-    SELECT_REACHED, SELECT_SESSION, MOVE_SHARD, ADD_SESSION, MOVE_SESSION, RESET_SESSIONS, STATEMENTS
-};
-enum { EFFECTS = 32 }; /* the most statements of effects, and others that callers give */
-
 struct sqlite_store {
     struct store base;
     sqlite3 *db;
-    struct statement statements[STATEMENTS];
-    const char *effects[EFFECTS]; /* those statements, and what they are prepared as */
-    struct statement prepared[EFFECTS];
+    struct statement prepared[STORE_STATEMENTS]; /* what was given */
+    const char *added;            /* the statement of the rows that are inserted together */
+    struct rows rows;
     char refusal[STORE_REFUSAL];  /* why values were refused; "" if they weren't */
     int is_fenced;                /* something that this transaction moves stood elsewhere */
 };
@@ -40,10 +35,10 @@ static const char *const columns[][2] = {
 
 /* Each changes one row if it stands where it is said, and else none. A row that isn't there stands
  * at zeros, or nowhere. */
-static const char *const own_sql[STATEMENTS] = {
+static const char *const own_sql[STORE_SQL] = {
     [SELECT_REACHED] = "SELECT incarnation, offset FROM shard WHERE shard = ?",
-    [SELECT_SESSION] = ("SELECT next, closed, missed, at, shard, name, history FROM session"
-                        " WHERE name = ?"),
+    [SELECT_SESSIONS] = ("SELECT next, closed, missed, at, shard, name, history FROM session WHERE name IN"
+                         " (SELECT value FROM json_each('[' || trim(?, '{}') || ']'))"),
     [MOVE_SHARD] = ("INSERT INTO shard (shard, incarnation, offset) SELECT ?1, ?4, ?5"
                     " WHERE ?2 = 0 AND ?3 = 0 OR ?1 IN (SELECT shard FROM shard)"
                     " ON CONFLICT (shard) DO UPDATE SET incarnation = ?4, offset = ?5"
@@ -59,152 +54,60 @@ static const char *const own_sql[STATEMENTS] = {
     [RESET_SESSIONS] = "UPDATE session SET at = 0, missed = 0 WHERE shard = ?",
 };
 
-static int reached(struct store *base, unsigned shard, struct reached *reached)
+static int begin(struct store *base)
 {
     struct sqlite_store *s = (struct sqlite_store *)base;
-    struct statement *select = &s->statements[SELECT_REACHED];
-    int row;
-    bind_number(select, 1, shard);
-    row = step_row(select);
-    reached->incarnation = row == 1 ? (uint64_t)sqlite3_column_int64(select->at, 0) : 0;
-    reached->offset = row == 1 ? (uint64_t)sqlite3_column_int64(select->at, 1) : 0;
-    end_rows(select);
-    return row < 0 ? -1 : 0;
-}
-
-static void read_demand(struct statement *select, struct demand *demand)
-{
-    demand->next = (uint64_t)sqlite3_column_int64(select->at, 0);
-    demand->closed = (uint32_t)sqlite3_column_int(select->at, 1);
-    demand->missed = (uint32_t)sqlite3_column_int(select->at, 2);
-    demand->at = (uint64_t)sqlite3_column_int64(select->at, 3);
-    demand->shard = sqlite3_column_int(select->at, 4);
-    history_read(&demand->history, (const char *)sqlite3_column_text(select->at, 6));
-    demand->is_stored = 1;
-}
-
-/* Passes all rows of sessions that a statement gives. */
-static int take_rows(struct statement *select, store_take *take, void *given)
-{
-    int row, answer = 0;
-    while (answer == 0 && (row = step_row(select)) != 0) {
-        const char *name = row == 1 ? (const char *)sqlite3_column_text(select->at, 5) : NULL;
-        struct demand demand;
-        if (row == 1)
-            read_demand(select, &demand);
-        answer = name == NULL || take(given, name, &demand) != 0 ? -1 : 0;
-    }
-    end_rows(select);
-    return answer;
-}
-
-static int sessions(struct store *base, const char *const *names, size_t count, store_take *take,
-                    void *given)
-{
-    struct statement *select = &((struct sqlite_store *)base)->statements[SELECT_SESSION];
-    size_t i;
-    int answer = 0;
-    for (i = 0; i < count && answer == 0; i++) {
-        bind_text(select, 1, names[i]);
-        answer = take_rows(select, take, given);
-    }
-    return answer;
-}
-
-/* Runs a statement that moves one row, if it stood where it was said. */
-static int move(struct sqlite_store *s, struct statement *statement)
-{
-    if (step_once(statement) != 0)
-        return -1;
-    s->is_fenced |= sqlite3_changes(s->db) != 1;
-    return 0;
-}
-
-/* The shard is another list than before. */
-static int reset_sessions(struct sqlite_store *s, unsigned shard)
-{
-    struct statement *reset = &s->statements[RESET_SESSIONS];
-    bind_number(reset, 1, shard);
-    return step_once(reset);
-}
-
-static int begin(struct store *base, unsigned shard, const struct reached *from,
-                 const struct reached *to)
-{
-    struct sqlite_store *s = (struct sqlite_store *)base;
-    struct statement *statement = &s->statements[MOVE_SHARD];
     s->is_fenced = 0;
-    if (begin_writing(s->db) != 0)
-        return -1;
-    bind_number(statement, 1, shard);
-    bind_number(statement, 2, (sqlite3_int64)from->incarnation);
-    bind_number(statement, 3, (sqlite3_int64)from->offset);
-    bind_number(statement, 4, (sqlite3_int64)to->incarnation);
-    bind_number(statement, 5, (sqlite3_int64)to->offset);
-    if (move(s, statement) != 0)
-        return -1;
-    return store_is_other(from, to) ? reset_sessions(s, shard) : 0;
-}
-
-/* Binds five places of a statement, from this one on. */
-static void bind_demand(struct statement *statement, int place, const struct demand *it)
-{
-    bind_number(statement, place, (sqlite3_int64)it->next);
-    bind_number(statement, place + 1, it->closed);
-    bind_number(statement, place + 2, it->missed);
-    bind_number(statement, place + 3, (sqlite3_int64)it->at);
-    bind_number(statement, place + 4, it->shard);
-}
-
-static int advance(struct store *base, const char *session, const struct demand *from,
-                   const struct demand *to)
-{
-    struct sqlite_store *s = (struct sqlite_store *)base;
-    struct statement *statement = &s->statements[from->is_stored ? MOVE_SESSION : ADD_SESSION];
-    char history[HISTORY_TEXT];
-    history_write(&to->history, history);
-    bind_text(statement, 1, session);
-    bind_demand(statement, 2, to);
-    if (from->is_stored)
-        bind_demand(statement, 7, from);
-    bind_text(statement, from->is_stored ? 12 : 7, history);
-    return move(s, statement);
+    return begin_writing(s->db);
 }
 
 static void rollback(struct store *base)
 {
     struct sqlite_store *s = (struct sqlite_store *)base;
+    forget_rows(&s->rows);
     roll_back(s->db);
+}
+
+/* What a statement with values answered; if they were refused, that is kept. */
+static int note_refusal(struct sqlite_store *s, int answer)
+{
+    int why = answer != 0 ? sqlite3_errcode(s->db) : SQLITE_OK;
+    s->refusal[0] = 0;
+    if (why == SQLITE_CONSTRAINT || why == SQLITE_MISMATCH || why == SQLITE_TOOBIG)
+        copy_cut(s->refusal, sizeof s->refusal, sqlite3_errmsg(s->db));
+    return answer;
+}
+
+/* Inserts the rows that wait. */
+static int settle(struct store *base)
+{
+    struct sqlite_store *s = (struct sqlite_store *)base;
+    return note_refusal(s, insert_rows(&s->rows));
 }
 
 static int commit(struct store *base)
 {
     struct sqlite_store *s = (struct sqlite_store *)base;
+    int answer = settle(base);
     if (s->is_fenced) {
         rollback(base);
         return 1;
     }
-    if (run(s->db, "COMMIT") == 0)
+    if (answer == 0 && run(s->db, "COMMIT") == 0)
         return 0;
     rollback(base);
     return -1;
 }
 
-/* ---- Effects */
+/* ---- Statements */
 
 /* The statement, which is prepared when it is first met. */
 static struct statement *prepared(struct sqlite_store *s, const char *sql)
 {
-    unsigned i = 0;
-    while (i < EFFECTS && s->effects[i] != NULL && s->effects[i] != sql)
-        i++;
-    if (i == EFFECTS) {
-        log_fact(LEVEL_ERROR, "effects_too_many", field_number("most", EFFECTS));
-        return NULL;
-    }
-    if (s->effects[i] == NULL && prepare(s->db, &s->prepared[i], sql) == 0)
-        s->effects[i] = sql;
-    return s->effects[i] != NULL ? &s->prepared[i] : NULL;
+    unsigned i = store_place(&s->base, sql);
+    if (i < STORE_STATEMENTS && s->base.given[i] == NULL && prepare(s->db, &s->prepared[i], sql) == 0)
+        s->base.given[i] = sql;
+    return i < STORE_STATEMENTS && s->base.given[i] != NULL ? &s->prepared[i] : NULL;
 }
 
 static void bind(struct statement *statement, int place, const struct value *value)
@@ -217,43 +120,48 @@ static void bind(struct statement *statement, int place, const struct value *val
         bind_bytes(statement, place, value->at, value->len);
 }
 
-/* The statement with its values, or NULL. */
+/* The statement with its values, after the rows that were added before; or NULL. */
 static struct statement *bound(struct store *base, const char *sql, const struct value *values,
                                unsigned count)
 {
-    struct statement *statement = prepared((struct sqlite_store *)base, sql);
+    struct statement *statement = settle(base) == 0 ? prepared((struct sqlite_store *)base, sql) : NULL;
     unsigned i;
     for (i = 0; i < count && statement != NULL; i++)
         bind(statement, (int)i + 1, &values[i]);
     return statement;
 }
 
-static int run_effect(struct store *base, const char *sql, const struct value *values,
-                      unsigned count)
+static int run_values(struct store *base, const char *sql, const struct value *values, unsigned count, int changes)
 {
     struct sqlite_store *s = (struct sqlite_store *)base;
     struct statement *statement = bound(base, sql, values, count);
-    int answer = statement != NULL ? step_once(statement) : -1, why;
-    s->refusal[0] = 0;
-    if (answer == 0)
-        return 0;
-    why = sqlite3_errcode(s->db);
-    if (why == SQLITE_CONSTRAINT || why == SQLITE_MISMATCH || why == SQLITE_TOOBIG)
-        write_cut(s->refusal, sizeof s->refusal, "%s", sqlite3_errmsg(s->db));
+    int answer = statement != NULL ? note_refusal(s, step_once(statement)) : -1;
+    if (answer == 0 && changes == ONE_ROW)
+        s->is_fenced |= sqlite3_changes(s->db) != 1;
     return answer;
+}
+
+static int add(struct store *base, const char *sql, const struct value *values, unsigned count)
+{
+    struct sqlite_store *s = (struct sqlite_store *)base;
+    int place = next_row(&s->rows);
+    unsigned i;
+    if (s->added == NULL && prepare_rows(s->db, &s->rows, sql) == 0)
+        s->added = sql;
+    if (s->added != sql)
+        return run_values(base, sql, values, count, ANY_ROWS);
+    for (i = 0; i < count; i++)
+        if (values[i].kind == VALUE_BYTES)
+            bind_copy(&s->rows, ++place, values[i].at, values[i].len);
+        else
+            bind(&s->rows.all, ++place, &values[i]);
+    return note_refusal(s, add_row(&s->rows));
 }
 
 static const char *refusal(struct store *base)
 {
     const char *why = ((struct sqlite_store *)base)->refusal;
     return why[0] != 0 ? why : NULL;
-}
-
-/* What isn't within a transaction has taken effect when it was run. */
-static int settle(struct store *base)
-{
-    (void)base;
-    return 0;
 }
 
 static int take_columns(sqlite3_stmt *row, store_row *take, void *given)
@@ -283,8 +191,8 @@ static int ask(struct store *base, const char *sql, const struct value *values, 
 static void close_it(struct store *base)
 {
     struct sqlite_store *s = (struct sqlite_store *)base;
-    finalize(s->statements, STATEMENTS);
-    finalize(s->prepared, EFFECTS);
+    finalize(s->prepared, STORE_STATEMENTS);
+    finalize(&s->rows.all, 1);
     close_database(s->db);
     free(s);
 }
@@ -326,9 +234,7 @@ static int open_it(struct sqlite_store *s, const char *path, unsigned shard)
     if (path_of_shard(path, shard, name, sizeof name) == NULL)
         return -1;
     s->db = open_database(name, tables);
-    if (s->db == NULL || complete(s->db) != 0)
-        return -1;
-    return prepare_all(s->db, s->statements, own_sql, STATEMENTS);
+    return s->db != NULL && complete(s->db) == 0 ? 0 : -1;
 }
 
 struct store *sqlite_store_open(const char *path, unsigned shard)
@@ -336,17 +242,7 @@ struct store *sqlite_store_open(const char *path, unsigned shard)
     struct sqlite_store *s = calloc(1, sizeof *s);
     if (s == NULL)
         return NULL;
-    s->base.reached = reached;
-    s->base.sessions = sessions;
-    s->base.begin = begin;
-    s->base.advance = advance;
-    s->base.commit = commit;
-    s->base.rollback = rollback;
-    s->base.close = close_it;
-    s->base.run = run_effect;
-    s->base.refusal = refusal;
-    s->base.settle = settle;
-    s->base.ask = ask;
+    s->base = (struct store){ own_sql, { NULL }, begin, run_values, add, refusal, settle, commit, rollback, ask, close_it };
     if (open_it(s, path, shard) == 0)
         return &s->base;
     close_it(&s->base);

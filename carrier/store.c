@@ -1,9 +1,11 @@
-/* Which store it is. */
+/* Which store it is, and what each of them keeps of a shard and its sessions. */
 #include "store.h"
+#include "carrier.h"
 #include "log.h"
 #include "text.h"
 
 #include <stdio.h>
+#include <stdlib.h>
 #include <string.h>
 
 const char kept_tables[] =
@@ -33,61 +35,128 @@ struct store *store_open(const char *where, unsigned shard)
     return NULL;
 }
 
+/* ---- What is stored of a shard and its sessions */
+
+static uint64_t number_of(const char *column)
+{
+    return strtoull(column, NULL, 10);
+}
+
+static int read_reached(void *given, const char *const *row)
+{
+    *(struct reached *)given = (struct reached){ number_of(row[0]), number_of(row[1]) };
+    return 0;
+}
+
 int store_reached(struct store *store, unsigned shard, struct reached *reached)
 {
-    return store->reached(store, shard, reached);
+    const struct value value = number_value(shard);
+    *reached = (struct reached){ 0, 0 };
+    return store->ask(store, store->sql[SELECT_REACHED], &value, 1, read_reached, reached);
+}
+
+struct taking { store_take *take; void *given; };
+
+static int read_session(void *given, const char *const *row)
+{
+    const struct taking *to = given;
+    struct demand demand = { .next = number_of(row[0]), .closed = (uint32_t)number_of(row[1]),
+                             .missed = (uint32_t)number_of(row[2]), .at = number_of(row[3]),
+                             .shard = (int32_t)strtol(row[4], NULL, 10), .is_stored = 1 };
+    history_read(&demand.history, row[6]);
+    return to->take(to->given, row[5], &demand);
+}
+
+/* The names as PostgreSQL writes an array of texts; the caller frees it. */
+static char *array_of(const char *const *names, size_t count)
+{
+    char *array = malloc(count * (CARRIER_NAME + 3) + 3);
+    size_t i, size = 0;
+    for (i = 0; i < count && array != NULL; i++)
+        size += (size_t)sprintf(array + size, "%c\"%s\"", i == 0 ? '{' : ',', names[i]);
+    if (array != NULL)
+        strcpy(array + size, "}");
+    return array;
 }
 
 int store_sessions(struct store *store, const char *const *names, size_t count, store_take *take,
                    void *given)
 {
-    return count > 0 ? store->sessions(store, names, count, take, given) : 0;
+    struct taking to = { take, given };
+    char *array = array_of(names, count);
+    struct value value;
+    int answer = -1;
+    if (array != NULL && count > 0) {
+        value = text_value(array);
+        answer = store->ask(store, store->sql[SELECT_SESSIONS], &value, 1, read_session, &to);
+    }
+    free(array);
+    return count > 0 ? answer : 0;
+}
+
+/* ---- A transaction */
+
+/* Whether it moves a shard from one list to another. */
+static int is_other(const struct reached *from, const struct reached *to)
+{
+    return from->incarnation != 0 && from->incarnation != to->incarnation;
 }
 
 int store_begin(struct store *store, unsigned shard, const struct reached *from,
                 const struct reached *to)
 {
-    return store->begin(store, shard, from, to);
+    const struct value values[] = { number_value(shard), number_value(from->incarnation), number_value(from->offset),
+                                    number_value(to->incarnation), number_value(to->offset) };
+    if (store->begin(store) != 0 || store->run(store, store->sql[MOVE_SHARD], values, 5, ONE_ROW) != 0)
+        return -1;
+    return is_other(from, to) ? store->run(store, store->sql[RESET_SESSIONS], values, 1, ANY_ROWS) : 0;
+}
+
+enum { ROW = 5 }; /* values of a session's row, but for its name and its history */
+
+static void write_row(struct value values[ROW], const struct demand *it)
+{
+    values[0] = number_value(it->next);
+    values[1] = number_value(it->closed);
+    values[2] = number_value(it->missed);
+    values[3] = number_value(it->at);
+    values[4] = number_value((uint64_t)(int64_t)it->shard);
 }
 
 int store_advance(struct store *store, const char *session, const struct demand *from,
                   const struct demand *to)
 {
-    return store->advance(store, session, from, to);
+    struct value values[2 * ROW + 2] = { text_value(session) };
+    char history[HISTORY_TEXT];
+    unsigned count = 1 + ROW;
+    write_row(values + 1, to);
+    if (from->is_stored) {
+        write_row(values + count, from);
+        count += ROW;
+    }
+    history_write(&to->history, history);
+    values[count++] = text_value(history);
+    return store->run(store, store->sql[from->is_stored ? MOVE_SESSION : ADD_SESSION], values, count, ONE_ROW);
 }
 
-int store_commit(struct store *store)
-{
-    return store->commit(store);
-}
+/* ---- Statements */
 
-void store_rollback(struct store *store)
+unsigned store_place(const struct store *store, const char *sql)
 {
-    store->rollback(store);
-}
-
-void store_close(struct store *store)
-{
-    store->close(store);
+    unsigned i = 0;
+    while (i < STORE_STATEMENTS && store->given[i] != NULL && store->given[i] != sql)
+        i++;
+    if (i == STORE_STATEMENTS)
+        log_fact(LEVEL_ERROR, "effects_too_many", field_number("most", STORE_STATEMENTS));
+    return i;
 }
 
 int store_run(struct store *store, const char *sql, const struct value *values, unsigned count)
 {
-    return store->run(store, sql, values, count);
+    return store->run(store, sql, values, count, ANY_ROWS);
 }
 
-const char *store_refusal(struct store *store)
+int store_add(struct store *store, const char *sql, const struct value *values, unsigned count)
 {
-    return store->refusal(store);
-}
-
-int store_settle(struct store *store)
-{
-    return store->settle(store);
-}
-
-int store_ask(struct store *store, const char *sql, const struct value *values, unsigned count,
-              store_row *take, void *given)
-{
-    return store->ask(store, sql, values, count, take, given);
+    return store->add(store, sql, values, count);
 }

@@ -16,6 +16,7 @@
 
 #include <stddef.h>
 #include <stdint.h>
+#include <string.h>
 
 struct store;
 
@@ -65,16 +66,6 @@ int store_begin(struct store *store, unsigned shard, const struct reached *from,
 int store_advance(struct store *store, const char *session, const struct demand *from,
                   const struct demand *to);
 
-/* Ends it: 0 if all of it took effect, 1 if something stood elsewhere, and -1 after a fault.
- * After 1 nothing took effect; after -1 it isn't known whether it did: all is to be read again.
- */
-int store_commit(struct store *store);
-
-/* Gives it up. */
-void store_rollback(struct store *store);
-
-void store_close(struct store *store);
-
 /* ---- For the effect of a text (effect.c): any statement that gives no rows, within the open
  * transaction. $1, $2 .. stand for its values, in this order. The statement's bytes stay as they
  * are: each is prepared once. */
@@ -82,48 +73,74 @@ void store_close(struct store *store);
 enum value_kind { VALUE_NUMBER, VALUE_TEXT, VALUE_BYTES };
 struct value { enum value_kind kind; uint64_t number; const void *at; size_t len; };
 
-enum { STORE_VALUES = 11 }; /* the most of one statement */
+enum { STORE_VALUES = 12 }; /* the most of one statement */
 
 int store_run(struct store *store, const char *sql, const struct value *values, unsigned count);
 
-/* Why the values of the statement that failed last were refused: a constraint that they violate, what a trigger
- * raises, or a value that a column can't have. NULL if that isn't why it failed. */
-const char *store_refusal(struct store *store);
-enum { STORE_REFUSAL = 256 };
+/* The same of a row, "INSERT INTO .. VALUES ($1, ..)": it may be inserted later, but before another
+ * statement is run. Values that are texts stay as they are until then. */
+int store_add(struct store *store, const char *sql, const struct value *values, unsigned count);
 
-/* ---- The same outside of a transaction. */
+/* Values of a statement. */
+static inline struct value number_value(uint64_t number)
+{
+    return (struct value){ VALUE_NUMBER, number, NULL, 0 };
+}
 
-/* Waits until what store_run asked has taken effect. 0, or -1 after a fault. */
-int store_settle(struct store *store);
+static inline struct value text_value(const char *text)
+{
+    return (struct value){ VALUE_TEXT, 0, text, strlen(text) };
+}
 
-/* Passes each row of a question, whose columns are texts, to a function. What that doesn't answer 0
- * ends it, with -1. */
+static inline struct value bytes_value(const void *at, size_t len)
+{
+    return (struct value){ VALUE_BYTES, 0, at, len };
+}
+
+/* ---- What a store does; the first member of each kind's own struct. */
+
+enum store_sql { SELECT_REACHED, SELECT_SESSIONS, MOVE_SHARD, ADD_SESSION, MOVE_SESSION, RESET_SESSIONS, STORE_SQL };
+enum { ANY_ROWS, ONE_ROW }; /* which a statement has to change, or its transaction has no effect */
+enum { STORE_REFUSAL = 256, STORE_COLUMNS = 16 }; /* the room for a refusal, and the most columns of one row */
+enum { STORE_STATEMENTS = 32 };                   /* the most that are given to one */
+
+/* A row of a question, whose columns are texts; what doesn't answer 0 ends it, with -1. */
 typedef int store_row(void *given, const char *const *columns);
-int store_ask(struct store *store, const char *sql, const struct value *values, unsigned count,
-              store_row *take, void *given);
-enum { STORE_COLUMNS = 16 }; /* the most of one row */
-
-/* ---- For those who write a store: its first member is a struct store. */
 
 struct store {
-    int (*reached)(struct store *, unsigned, struct reached *);
-    int (*sessions)(struct store *, const char *const *, size_t, store_take *, void *);
-    int (*begin)(struct store *, unsigned, const struct reached *, const struct reached *);
-    int (*advance)(struct store *, const char *, const struct demand *, const struct demand *);
-    int (*commit)(struct store *);
-    void (*rollback)(struct store *);
-    void (*close)(struct store *);
-    int (*run)(struct store *, const char *, const struct value *, unsigned);
+    const char *const *sql;              /* its own statements, */
+    const char *given[STORE_STATEMENTS]; /* and all that were given to it and are prepared */
+
+    int (*begin)(struct store *);
+
+    /* As store_run and store_add. */
+    int (*run)(struct store *, const char *sql, const struct value *values, unsigned count, int changes);
+    int (*add)(struct store *, const char *sql, const struct value *values, unsigned count);
+
+    /* Why the values of the statement that failed last were refused: a constraint that they violate, what a trigger
+     * raises, or a value that a column can't have. NULL if that isn't why it failed. */
     const char *(*refusal)(struct store *);
+
+    /* Waits until what was run and added has taken effect; outside of a transaction that stays. 0, or -1 after a
+     * fault. */
     int (*settle)(struct store *);
-    int (*ask)(struct store *, const char *, const struct value *, unsigned, store_row *, void *);
+
+    /* Ends the transaction: 0 if all of it took effect, 1 if something stood elsewhere, and -1 after a fault.
+     * After 1 nothing took effect; after -1 it isn't known whether it did: all is to be read again. */
+    int (*commit)(struct store *);
+
+    /* Gives it up. */
+    void (*rollback)(struct store *);
+
+    /* Passes each row to a function, outside of a transaction. */
+    int (*ask)(struct store *, const char *sql, const struct value *values, unsigned count, store_row *take, void *given);
+
+    void (*close)(struct store *);
 };
 
-/* Whether a transaction moves a shard from one list to another. */
-static inline int store_is_other(const struct reached *from, const struct reached *to)
-{
-    return from->incarnation != 0 && from->incarnation != to->incarnation;
-}
+/* The place of a statement among those that were given, or of one that is new; STORE_STATEMENTS, with a report, where
+ * none is free. */
+unsigned store_place(const struct store *store, const char *sql);
 
 /* The table of kept.h, in words of each store. */
 extern const char kept_tables[];

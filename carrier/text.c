@@ -14,6 +14,14 @@ void write_cut(char *to, size_t room, const char *format, ...)
     va_end(values);
 }
 
+void copy_cut(char *to, size_t room, const char *text)
+{
+    size_t len = text != NULL ? strnlen(text, room - 1) : 0;
+    if (len > 0)
+        memcpy(to, text, len);
+    to[len] = 0;
+}
+
 void write_whole(char *to, size_t room, const char *format, ...)
 {
     va_list values;

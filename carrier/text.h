@@ -9,6 +9,9 @@
 void write_cut(char *to, size_t room, const char *format, ...)
     __attribute__((format(printf, 3, 4)));
 
+/* The same of a text as it is; NULL is "". */
+void copy_cut(char *to, size_t room, const char *text);
+
 /* All of it has room, whatever is written: else the program ends (end_at_once). For names, numbers
  * and statements, which mean something else where an end is missing. */
 void write_whole(char *to, size_t room, const char *format, ...)

@@ -12,18 +12,11 @@
 
 enum { LOOKED = 2048 }; /* texts of one pass */
 
-static void touch(struct sender *s, struct sending *it)
-{
-    if (!it->is_touched)
-        s->touched.at[s->touched.count++] = it;
-    it->is_touched = 1;
-}
-
 static int tell_unknown(struct sender *s, const char *session)
 {
     if (strncmp(s->unknown, session, sizeof s->unknown - 1) == 0)
         return 0;
-    write_cut(s->unknown, sizeof s->unknown, "%s", session);
+    copy_cut(s->unknown, sizeof s->unknown, session);
     return sender_tell_stopped(s, session, s->kerberos == NULL
                                ? "it has texts, and no line among the sessions"
                                : "it has texts, and can't be a stream: has its name 1 to 31 letters,"
@@ -67,12 +60,12 @@ static enum seal_answer take(struct sender *s, struct sending **it, const struct
         (*it)->has_texts = 1;
         return SEAL_OK;
     }
-    touch(s, *it);
+    list_add(&s->touched, *it, &(*it)->is_touched);
     if (text->body != NULL && sender_is_old(s, *it)) {
         answer = sender_renew(s, it, text->id);
         if (answer != SEAL_OK)
             return answer;
-        touch(s, *it);
+        list_add(&s->touched, *it, &(*it)->is_touched);
     }
     return seal_text(&s->sealing, *it, text);
 }
@@ -102,21 +95,21 @@ static enum seal_answer look_at(struct sender *s, const struct waiting_text *tex
 /* Looks at the texts after those that were looked at. */
 static enum seal_answer take_new(struct sender *s)
 {
+    struct statement *select = outbox_select_texts(&s->outbox, s->seen, LOOKED);
     struct sending *it;
     struct runs runs = { .count = 0 };
     struct waiting_text text = { 0, NULL, NULL, 0 };
     enum seal_answer answer = SEAL_OK;
     sqlite3_int64 last = s->seen;
     int row = 0, is_taken = 0;
-    outbox_select_texts(&s->outbox, s->seen, INT64_MAX, LOOKED);
-    while (answer == SEAL_OK && (row = outbox_next_text(&s->outbox, &text)) == 1) {
+    while (answer == SEAL_OK && (row = outbox_next_text(select, &text)) == 1) {
         int was_taken = is_taken;
         answer = look_at(s, &text, &it, &is_taken);
         if (is_taken)
             note_run(&runs, text.id, was_taken);
         last = text.id;
     }
-    outbox_end_texts(&s->outbox);
+    end_rows(select);
     if (answer != SEAL_OK)
         return answer;
     s->seen = last;
@@ -130,14 +123,14 @@ static enum seal_answer take_new(struct sender *s)
 static enum seal_answer take_waiting(struct sender *s, struct sending **it, size_t *looked)
 {
     const char *name = (*it)->stream != NULL ? (*it)->stream->name : (*it)->of.name;
+    struct statement *select = outbox_select_waiting(&s->outbox, name, s->seen, LOOKED - *looked);
     struct runs runs = { .count = 0 };
     struct waiting_text text = { 0, NULL, NULL, 0 };
     enum seal_answer answer = SEAL_OK;
     sqlite3_int64 last = -1;
     int row = 0, is_taken = 1;
     (*it)->has_texts = 0;
-    outbox_select_waiting(&s->outbox, name, s->seen, LOOKED - *looked);
-    while (answer == SEAL_OK && is_taken && (row = outbox_next_waiting(&s->outbox, &text)) == 1) {
+    while (answer == SEAL_OK && is_taken && (row = outbox_next_text(select, &text)) == 1) {
         if (is_left(*it, &text))
             break;
         answer = take(s, it, &text, &is_taken);
@@ -146,7 +139,7 @@ static enum seal_answer take_waiting(struct sender *s, struct sending **it, size
         last = text.id;
         ++*looked;
     }
-    outbox_end_waiting(&s->outbox);
+    end_rows(select);
     if (answer != SEAL_OK)
         return answer;
     if (*looked == LOOKED)
@@ -197,5 +190,5 @@ void texts_give_up(struct sender *s, sqlite3_int64 seen)
     s->seen = seen;
     s->unknown[0] = 0;
     for (i = 0; i < s->touched.count; i++)
-        s->touched.at[i]->has_texts = 1;
+        ((struct sending *)s->touched.at[i])->has_texts = 1;
 }

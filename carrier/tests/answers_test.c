@@ -1,5 +1,5 @@
 /* What is done about answers that no caller looks at: a statement isn't run with a value that it
- * wasn't given, and what can't be ends the program. */
+ * wasn't given, and what can't be ends the program. Rows that are inserted together are all there. */
 #include "check.h"
 #include "database.h"
 #include "locks.h"
@@ -43,6 +43,41 @@ static void test_values(void)
     end_rows(insert);
     check(step_once(insert) == 0, "after the end of its rows it is run again");
     finalize(insert, 1);
+    close_database(db);
+}
+
+static int add(struct rows *rows, const char *name, int number, const void *bytes, size_t len)
+{
+    int at = next_row(rows);
+    bind_name(rows, at + 1, name);
+    bind_number(&rows->all, at + 2, number);
+    bind_copy(rows, at + 3, bytes, len);
+    return add_row(rows);
+}
+
+static void test_rows(void)
+{
+    static const char large[ROW_BYTES], all[] = "SELECT count(*) FROM it";
+    sqlite3 *db = open_database(":memory:", "CREATE TABLE it (name TEXT, number INTEGER, bytes BLOB)");
+    struct rows rows;
+    int i;
+    check(db != NULL && prepare_rows(db, &rows, "INSERT INTO it VALUES ($1, $2, $3)") == 0, "rows are prepared");
+    for (i = 0; i <= ROWS; i++) {
+        char name[] = "row", byte = (char)(' ' + i);
+        check(add(&rows, name, i, &byte, 1) == 0, "a row is added");
+        memset(name, 0, sizeof name); /* it was copied, and so is the byte */
+    }
+    check(count_of(db, all) == ROWS, "so many are inserted together");
+    check(insert_rows(&rows) == 0 && count_of(db, all) == ROWS + 1, "and the rest at the end");
+    check(count_of(db, "SELECT count(*) FROM it WHERE rowid = number + 1 AND name = 'row'"
+                       " AND bytes = CAST(char(32 + number) AS BLOB)") == ROWS + 1, "each with its values, in their order");
+    check(add(&rows, "row", 99, large, sizeof large) == 0 && count_of(db, all) == ROWS + 2, "long ones sooner");
+    check(add(&rows, "row", 100, large, 1) == 0, "one that is forgotten");
+    forget_rows(&rows);
+    check(insert_rows(&rows) == 0 && count_of(db, all) == ROWS + 2, "isn't there");
+    check(add(&rows, NULL, 101, large, 1) == 0 && insert_rows(&rows) == -1, "one without its name is a fault");
+    check(add(&rows, "row", 102, large, 1) == 0 && insert_rows(&rows) == 0 && count_of(db, all) == ROWS + 3, "once");
+    finalize(&rows.all, 1);
     close_database(db);
 }
 
@@ -90,8 +125,9 @@ static void lock_twice(void)
 
 int main(int count, char **words)
 {
-    check_only(1, count, words);
+    check_only(2, count, words);
     RUN(test_values());
+    RUN(test_rows());
     check(status_of(write_enough) == 0, "a text that has room");
     check(status_of(write_too_much) == 1, "a name that is cut ends the program");
     check(status_of(lock_twice) == 1, "so does a lock that can't be taken");

@@ -32,8 +32,8 @@ static void await_shard(struct carrier *c, unsigned shard)
     static struct confirmed list[1];
     uint64_t made = 0;
     int tries;
-    for (tries = 0; tries < PATIENCE && carrier_make(c, shard, &made) != 0; tries++)
-        check(carrier_confirmed(c, list, 1, 100) == 0, "nothing is confirmed that wasn't published");
+    for (tries = 0; tries < PATIENCE && c->make(c, shard, &made) != 0; tries++)
+        check(c->confirmed(c, list, 1, 100) == 0, "nothing is confirmed that wasn't published");
     check(made > 0, "a shard is made");
 }
 
@@ -44,7 +44,7 @@ static void publish_all(struct carrier *c)
     for (i = 0; i < FRAMES; i++) {
         unsigned shard = SHARD + i % 2;
         fill(frame, shard, i);
-        check(carrier_publish(c, shard, session_of(i), i, 10 * i, frame, len_of(i)) == 0,
+        check(c->publish(c, shard, session_of(i), i, 10 * i, frame, len_of(i)) == 0,
               "publish");
     }
 }
@@ -64,7 +64,7 @@ static void await_confirmed(struct carrier *c)
     static struct confirmed list[FRAMES];
     int had = 0, tries;
     for (tries = 0; had < FRAMES && tries < PATIENCE; tries++) {
-        int now = carrier_confirmed(c, list, FRAMES, 100);
+        int now = c->confirmed(c, list, FRAMES, 100);
         if (now > 0) {
             note_confirmed(list, now);
             had += now;
@@ -88,25 +88,25 @@ static void read_from(struct carrier *reader, unsigned i, uint64_t offset)
     static struct carried list[64];
     unsigned shard = SHARD + i % 2;
     int at, had, tries;
-    carrier_seek(reader, shard, offset);
+    reader->seek(reader, shard, offset);
     for (tries = 0; i < FRAMES && tries < PATIENCE; tries++) {
-        had = carrier_fetch(reader, list, 64, 100);
+        had = reader->fetch(reader, list, 64, 100);
         for (at = 0; at < had; at++, i += 2)
             check_fetched(&list[at], shard, i);
     }
     check(i >= FRAMES, "all are fetched");
-    check(carrier_fetch(reader, list, 64, 100) == 0, "and no more");
+    check(reader->fetch(reader, list, 64, 100) == 0, "and no more");
 }
 
 /* Each reader of a shard gets the same incarnation, and nothing stands after the end. */
 static void check_shards(struct carrier *c, struct carrier *reader)
 {
     uint64_t made = 0, asked = 0, behind = 1, end = 0;
-    check(carrier_make(c, SHARD, &made) == 0 && made > 0, "it is made");
-    check(carrier_incarnation(reader, SHARD, &asked, &end) == 0 && asked == made, "its incarnation");
+    check(c->make(c, SHARD, &made) == 0 && made > 0, "it is made");
+    check(reader->incarnation(reader, SHARD, &asked, &end) == 0 && asked == made, "its incarnation");
     check(end == offsets[FRAMES - 2], "its last offset");
     read_from(reader, 2, offsets[0]);
-    check(carrier_behind(reader, &behind) == 0 && behind == 0, "nothing stands after the end");
+    check(reader->behind(reader, &behind) == 0 && behind == 0, "nothing stands after the end");
 }
 
 int main(int count, char **words)
@@ -131,7 +131,7 @@ int main(int count, char **words)
     for (i = 101; i + 2 < FRAMES; i += 101)
         RUN(read_from(reader, i + 2, offsets[i]));
     RUN(check_shards(c, reader));
-    carrier_close(c);
-    carrier_close(reader);
+    c->close(c);
+    reader->close(reader);
     return check_status("carrier_test");
 }

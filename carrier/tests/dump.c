@@ -30,9 +30,9 @@ static void print_shard(struct dump *d, struct carrier *carrier, unsigned shard)
 {
     static struct carried list[TAKEN];
     int i, had, silent = 0;
-    carrier_seek(carrier, shard, 0);
+    carrier->seek(carrier, shard, 0);
     while (silent < SILENT) {
-        had = carrier_fetch(carrier, list, TAKEN, WAIT);
+        had = carrier->fetch(carrier, list, TAKEN, WAIT);
         silent = had > 0 ? 0 : silent + 1;
         for (i = 0; i < had; i++)
             print(d, shard, &list[i]);
@@ -57,6 +57,6 @@ int main(int count, char **words)
         print_shard(&d, carrier, shard);
     free(d.text);
     sessions_forget(d.sessions);
-    carrier_close(carrier);
+    carrier->close(carrier);
     return 0;
 }

@@ -14,12 +14,9 @@
 #include <time.h>
 #include <unistd.h>
 
-struct faulty {
-    struct carrier base;
-    struct carrier *real;
-    long faults;   /* of 1,000 */
-    unsigned lost; /* so many of the next frames are lost too */
-};
+static struct carrier real; /* the calls of SQLite's carrier */
+static long faults;         /* of 1,000 */
+static unsigned lost;       /* so many of the next frames are lost too */
 
 struct carrier *__real_sqlite_carrier_open(const char *path);
 struct carrier *__wrap_sqlite_carrier_open(const char *path);
@@ -84,99 +81,55 @@ enum krbrelay_answer __wrap_krbrelay_receiver_take_numbered(struct krbrelay_rece
     return __real_krbrelay_receiver_take_numbered(handle, frame, len, &now, kind, bytes, room, size, number);
 }
 
-static int happens(const struct faulty *c)
+static int happens(void)
 {
-    return rand() % 1000 < c->faults;
+    return rand() % 1000 < faults;
 }
 
-static int publish(struct carrier *base, unsigned shard, const char *session, uint32_t tag,
+static int publish(struct carrier *c, unsigned shard, const char *session, uint32_t tag,
                    uint64_t number, const uint8_t *frame, size_t len)
 {
-    struct faulty *c = (struct faulty *)base;
-    if (c->lost == 0 && happens(c))
-        c->lost = 1 + (unsigned)rand() % 3;
-    if (c->lost > 0) {
-        c->lost--;
+    if (lost == 0 && happens())
+        lost = 1 + (unsigned)rand() % 3;
+    if (lost > 0) {
+        lost--;
         return 0;
     }
-    if (happens(c)) /* the first copy is confirmed to nobody */
-        carrier_publish(c->real, shard, session, UINT32_MAX, number, frame, len);
-    return carrier_publish(c->real, shard, session, tag, number, frame, len);
+    if (happens()) /* the first copy is confirmed to nobody */
+        real.publish(c, shard, session, UINT32_MAX, number, frame, len);
+    return real.publish(c, shard, session, tag, number, frame, len);
 }
 
-static int confirmed(struct carrier *base, struct confirmed *list, size_t room, int milliseconds)
+static int confirmed(struct carrier *c, struct confirmed *list, size_t room, int milliseconds)
 {
-    struct faulty *c = (struct faulty *)base;
-    int i, kept = 0, count = carrier_confirmed(c->real, list, room, milliseconds);
+    int i, kept = 0, count = real.confirmed(c, list, room, milliseconds);
     for (i = 0; i < count; i++)
-        if (!happens(c))
+        if (!happens())
             list[kept++] = list[i];
     return count < 0 ? count : kept;
 }
 
-static int incarnation(struct carrier *base, unsigned shard, uint64_t *incarnation, uint64_t *end)
-{
-    return carrier_incarnation(((struct faulty *)base)->real, shard, incarnation, end);
-}
-
-static int make(struct carrier *base, unsigned shard, uint64_t *incarnation)
-{
-    return carrier_make(((struct faulty *)base)->real, shard, incarnation);
-}
-
-static void seek(struct carrier *base, unsigned shard, uint64_t offset)
-{
-    carrier_seek(((struct faulty *)base)->real, shard, offset);
-}
-
-static int fetch(struct carrier *base, struct carried *list, size_t room, int milliseconds)
-{
-    return carrier_fetch(((struct faulty *)base)->real, list, room, milliseconds);
-}
-
-static int behind(struct carrier *base, uint64_t *frames)
-{
-    return carrier_behind(((struct faulty *)base)->real, frames);
-}
-
 /* A receipt may be lost as a frame. */
-static int acknowledge(struct carrier *base, unsigned shard, const struct carried *list,
-                       size_t count)
+static int acknowledge(struct carrier *c, unsigned shard, const struct carried *list, size_t count)
 {
-    struct faulty *c = (struct faulty *)base;
     size_t i;
     for (i = 0; i < count; i++)
-        if (!happens(c) && carrier_acknowledge(c->real, shard, list + i, 1) != 0)
+        if (!happens() && real.acknowledge(c, shard, list + i, 1) != 0)
             return -1;
     return 0;
 }
 
-static int receipts(struct carrier *base, carrier_receipt *take, void *given)
-{
-    return carrier_receipts(((struct faulty *)base)->real, take, given);
-}
-
-static void close_it(struct carrier *base)
-{
-    carrier_close(((struct faulty *)base)->real);
-    free(base);
-}
-
 struct carrier *__wrap_sqlite_carrier_open(const char *path)
 {
-    struct carrier *real = __real_sqlite_carrier_open(path);
-    const char *faults = getenv("CARRIER_FAULTS");
-    struct faulty *c = calloc(1, sizeof *c);
-    if (real == NULL || c == NULL || faults == NULL) {
-        free(c);
-        return real;
-    }
-    c->base = (struct carrier){ .incarnation = incarnation, .make = make, .seek = seek,
-                                .publish = publish, .confirmed = confirmed,
-                                .fetch = fetch, .behind = behind, .acknowledge = acknowledge,
-                                .receipts = receipts, .close = close_it };
-    c->real = real;
-    c->faults = atol(faults);
+    struct carrier *c = __real_sqlite_carrier_open(path);
+    const char *given = getenv("CARRIER_FAULTS");
+    if (c == NULL || given == NULL)
+        return c;
+    real = *c;
+    c->publish = publish;
+    c->confirmed = confirmed;
+    c->acknowledge = acknowledge;
+    faults = atol(given);
     srand((unsigned)(getpid() + time(NULL)));
-    return &c->base;
+    return c;
 }

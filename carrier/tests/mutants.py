@@ -67,9 +67,9 @@ EDITS = {
 """),
     "receipts aren't sealed again": ("shard.c", """\
         if (it->end.owed != 0)
-            shard_owe""", """\
+            list_add""", """\
         if (it->end.owed > KRBRELAY_ASKS_NOTHING)
-            shard_owe"""),
+            list_add"""),
     "deduplication on": ("nats_publisher.c", """\
     status = natsConnection_PublishRequest(c->connection, subject, reply, frame, (int)len);
 """, """\

@@ -47,7 +47,7 @@ static void disturb(struct noise *n, unsigned shard, const struct carried *it)
         n->altered++;
     else
         n->repeats++;
-    carrier_publish(n->carrier, shard, name, 0, 0, copy, len);
+    n->carrier->publish(n->carrier, shard, name, 0, 0, copy, len);
     free(copy);
 }
 
@@ -59,14 +59,14 @@ static int disturb_some(struct noise *n)
     unsigned shard = (unsigned)rand() % n->shards;
     uint64_t *top = &n->top[shard];
     int i, had;
-    carrier_seek(n->carrier, shard, *top == 0 ? 0 : (uint64_t)rand() % *top);
-    had = carrier_fetch(n->carrier, list, TAKEN, WAIT);
+    n->carrier->seek(n->carrier, shard, *top == 0 ? 0 : (uint64_t)rand() % *top);
+    had = n->carrier->fetch(n->carrier, list, TAKEN, WAIT);
     for (i = 0; i < had; i++) {
         if (list[i].offset > *top)
             *top = list[i].offset + AHEAD;
         disturb(n, shard, &list[i]);
     }
-    while (carrier_confirmed(n->carrier, ignored, TAKEN, 0) > 0)
+    while (n->carrier->confirmed(n->carrier, ignored, TAKEN, 0) > 0)
         continue;
     return had;
 }
@@ -94,7 +94,7 @@ int main(int count, char **words)
     }
     pause_milliseconds(300);
     printf("noise: %lu repeats, %lu altered\n", n.repeats, n.altered);
-    carrier_close(n.carrier);
+    n.carrier->close(n.carrier);
     sessions_forget(n.sessions);
     return 0;
 }

@@ -61,14 +61,15 @@ static void put(struct outbox *outbox, const char *session, const void *text, si
 static enum seal_answer take_waiting(struct sealing *sealing, struct outbox *outbox, struct sending *sending,
                                      unsigned together)
 {
+    struct statement *select;
     struct waiting_text text;
     enum seal_answer answer = SEAL_OK;
     check(seal_begin(sealing, outbox, together) == 0, "there is memory");
     check(outbox_begin(outbox) == OUTBOX_OK, "a transaction begins");
-    outbox_select_texts(outbox, 0, INT64_MAX, 1000);
-    while (answer == SEAL_OK && outbox_next_text(outbox, &text) == 1)
+    select = outbox_select_texts(outbox, 0, 1000);
+    while (answer == SEAL_OK && outbox_next_text(select, &text) == 1)
         answer = seal_text(sealing, sending, &text);
-    outbox_end_texts(outbox);
+    end_rows(select);
     return answer;
 }
 

@@ -68,18 +68,19 @@ static void put_text(struct outbox *outbox, uint64_t number)
 static uint64_t seal_one(struct outbox *outbox, struct sending *sending)
 {
     struct sealing sealing;
+    struct statement *select;
     struct waiting_text text;
     const uint8_t *found = NULL;
     uint64_t number = 0;
     size_t len = 0;
     check(seal_begin(&sealing, outbox, 1) == 0, "there is memory");
     check(outbox_begin(outbox) == OUTBOX_OK, "a transaction begins");
-    outbox_select_texts(outbox, 0, INT64_MAX, 1);
-    check(outbox_next_text(outbox, &text) == 1 && seal_text(&sealing, sending, &text) == SEAL_OK
+    select = outbox_select_texts(outbox, 0, 1);
+    check(outbox_next_text(select, &text) == 1 && seal_text(&sealing, sending, &text) == SEAL_OK
           && seal_all(&sealing) == SEAL_OK, "a text is sealed");
     seal_end(&sealing);
     check(outbox_drop_texts(outbox, text.id, text.id) == 0, "and taken");
-    outbox_end_texts(outbox);
+    end_rows(select);
     check(outbox_set_next(outbox, &sending->of, sending->sealed - 1, sending->sealed) == 0
           && outbox_commit(outbox) == 0, "it is committed");
     outbox_select_frames(outbox, "tom-7", sending->sealed - 1, 1);
@@ -95,7 +96,7 @@ static void take_one(struct store *store, uint64_t number)
     const struct demand before = demands(number), after = demands(number + 1);
     const struct arrived text = { "tom-7", "", "", number, 0, (const uint8_t *)"hello", 5 };
     check(store_begin(store, SHARD, &from, &to) == 0 && take_effect(store, &text) == 0
-          && store_advance(store, "tom-7", &before, &after) == 0 && store_commit(store) == 0, "a text is taken");
+          && store_advance(store, "tom-7", &before, &after) == 0 && store->commit(store) == 0, "a text is taken");
     tell(TOOK, number, 0);
 }
 
@@ -103,10 +104,10 @@ static void carry_one(struct carrier *carrier, uint64_t number)
 {
     struct confirmed confirmed;
     int tries, count = 0;
-    check(carrier_publish(carrier, SHARD, "tom-7", 0, number, (const uint8_t *)&number, sizeof number) == 0,
+    check(carrier->publish(carrier, SHARD, "tom-7", 0, number, (const uint8_t *)&number, sizeof number) == 0,
           "a frame is published");
     for (tries = 0; count == 0 && tries < 10; tries++)
-        count = carrier_confirmed(carrier, &confirmed, 1, 100);
+        count = carrier->confirmed(carrier, &confirmed, 1, 100);
     check(count == 1 && confirmed.number == number, "and confirmed");
     tell(CONFIRMED, number, 0);
 }
@@ -121,7 +122,7 @@ static void work(uint64_t first, uint64_t end)
     struct carrier *carrier = carrier_open(&options);
     uint64_t number, incarnation;
     check(outbox_open(&outbox, outbox_path) == 0 && store != NULL && carrier != NULL, "all are opened");
-    check(carrier_make(carrier, SHARD, &incarnation) == 0, "there is a shard");
+    check(carrier->make(carrier, SHARD, &incarnation) == 0, "there is a shard");
     check(krbrelay_sending_load(&sending.end, first, first, 0, first, 0, 0) == KRBRELAY_OK, "its end begins");
     for (number = first; number < end; number++) {
         put_text(&outbox, number);
@@ -130,8 +131,8 @@ static void work(uint64_t first, uint64_t end)
         take_one(store, number);
     }
     seal_free(&sending);
-    carrier_close(carrier);
-    store_close(store);
+    carrier->close(carrier);
+    store->close(store);
     outbox_close(&outbox);
 }
 
@@ -208,11 +209,11 @@ static void find_store(void)
     uint64_t effects = 0;
     check(store != NULL && store_reached(store, SHARD, &reached) == 0
           && store_sessions(store, names, 1, note_demand, &demand) == 0
-          && store_ask(store, "SELECT CAST(count(*) AS TEXT) FROM effect", NULL, 0, note_count, &effects) == 0,
+          && store->ask(store, "SELECT CAST(count(*) AS TEXT) FROM effect", NULL, 0, note_count, &effects) == 0,
           "the store opens");
     check(demand.next > last_told(TOOK), "what was taken is taken");
     check(effects + 1 == demand.next && reached.offset == effects, "each text had its effect, and once");
-    store_close(store);
+    store->close(store);
 }
 
 static void find_carrier(void)
@@ -222,16 +223,16 @@ static void find_carrier(void)
     struct carrier *carrier = carrier_open(&options);
     uint64_t incarnation = 0, end = 0, i;
     int count;
-    check(carrier != NULL && carrier_incarnation(carrier, SHARD, &incarnation, &end) == 0, "the carrier opens");
-    carrier_seek(carrier, SHARD, 0);
-    count = carrier_fetch(carrier, list, TEXTS + 1, 0);
+    check(carrier != NULL && carrier->incarnation(carrier, SHARD, &incarnation, &end) == 0, "the carrier opens");
+    carrier->seek(carrier, SHARD, 0);
+    count = carrier->fetch(carrier, list, TEXTS + 1, 0);
     check(count >= 0 && (uint64_t)count >= last_told(CONFIRMED), "what was confirmed is there");
     for (i = 0; i < (uint64_t)count; i++) {
         uint64_t number = i + 1;
         check(list[i].len == sizeof number && memcmp(list[i].frame, &number, sizeof number) == 0,
               "in its order, as it was");
     }
-    carrier_close(carrier);
+    carrier->close(carrier);
 }
 
 /* ---- each step */

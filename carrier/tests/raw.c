@@ -18,9 +18,9 @@ static double publish_all(struct carrier *c, unsigned shard, int frames, size_t 
     while (confirmed < frames) {
         int now, batch = sent + TAKEN;
         while (sent < frames && sent < batch && sent - confirmed < WINDOW
-               && carrier_publish(c, shard, "raw", 0, (uint64_t)sent, frame, len) == 0)
+               && c->publish(c, shard, "raw", 0, (uint64_t)sent, frame, len) == 0)
             sent++;
-        now = carrier_confirmed(c, list, WINDOW, sent - confirmed < WINDOW ? 0 : WAIT);
+        now = c->confirmed(c, list, WINDOW, sent - confirmed < WINDOW ? 0 : WAIT);
         confirmed += now > 0 ? now : 0;
     }
     return frames / ((double)(nanoseconds() - began) / 1e9);
@@ -31,9 +31,9 @@ static double read_all(struct carrier *c, unsigned shard, int frames)
     static struct carried list[TAKEN];
     uint64_t began = nanoseconds();
     int had = 0;
-    carrier_seek(c, shard, 0);
+    c->seek(c, shard, 0);
     while (had < frames) {
-        int now = carrier_fetch(c, list, TAKEN, WAIT);
+        int now = c->fetch(c, list, TAKEN, WAIT);
         had += now > 0 ? now : 0;
     }
     return frames / ((double)(nanoseconds() - began) / 1e9);
@@ -54,6 +54,6 @@ int main(int count, char **words)
     published = publish_all(c, (unsigned)atoi(words[6]), atoi(words[8]), (size_t)atoi(words[10]));
     printf("published %.0f a second, read %.0f a second\n", published,
            read_all(c, (unsigned)atoi(words[6]), atoi(words[8])));
-    carrier_close(c);
+    c->close(c);
     return 0;
 }

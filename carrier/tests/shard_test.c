@@ -105,9 +105,9 @@ static void publish_as(struct carrier *carrier, const char *name, uint64_t numbe
 {
     static struct confirmed list[1];
     int tries;
-    check(carrier_publish(carrier, SHARD, name, 0, number, frame, len) == 0, "a frame is published");
+    check(carrier->publish(carrier, SHARD, name, 0, number, frame, len) == 0, "a frame is published");
     for (tries = 0; tries < STEPS; tries++)
-        if (carrier_confirmed(carrier, list, 1, 100) == 1)
+        if (carrier->confirmed(carrier, list, 1, 100) == 1)
             return;
     check(0, "it is confirmed");
 }
@@ -306,7 +306,7 @@ int main(int count, char **words)
     options.carrier.where = where;
     sessions = sessions_in(words[1]);
     carrier = carrier_open(&options.carrier);
-    check(carrier != NULL && carrier_make(carrier, SHARD, &incarnation) == 0, "a shard is made");
+    check(carrier != NULL && carrier->make(carrier, SHARD, &incarnation) == 0, "a shard is made");
     check(effects_choose(NULL, 0) == 0, "the effect is of effect.c");
     check(shard_start(&shard) == 0, "it is opened");
     shard_use(&shard, sessions);
@@ -321,7 +321,7 @@ int main(int count, char **words)
     memset(shard.bytes, 'x', KRBRELAY_FRAME_LIMIT);
     shard_stop(&shard);
     check(freed == 1 && left == 0, "what was received isn't left in memory");
-    carrier_close(carrier);
+    carrier->close(carrier);
     sessions_forget(sessions);
     return check_status("shard_test");
 }

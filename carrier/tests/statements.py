@@ -22,9 +22,11 @@ FIRST = {"INSERT", "UPDATE", "DELETE"}
 PARTS = FIRST | {"VALUES", "SELECT", "WHERE", "ON", "DO", "SET"}
 WRITES = re.compile(r"(?:^|;)\s*(?:INSERT(?: OR \w+)? INTO|UPDATE|DELETE FROM)\s+(\w+)")
 TRIGGER = r"CREATE TRIGGER IF NOT EXISTS {} (?:BEFORE|AFTER) INSERT ON text\s+WHEN (.*?) BEGIN (.*?); END;"
-# What looks at a count: in SQLite's store, in PostgreSQL's (as the call's last word), in the outbox.
-LOOKS = ("move(s, statement)", "sqlite3_changes(o->db) == 1")
-MOVE_LOOKS = "s->is_fenced |= sqlite3_changes(s->db) != 1;"
+# What looks at a count: in the outbox, beside its statement; in a store, where store.c asks for it as the call's last word.
+OUTBOX_LOOK = "sqlite3_changes(o->db) == 1"
+STORE_LOOKS = {"sqlite_store.c": "s->is_fenced |= sqlite3_changes(s->db) != 1;",
+               "postgresql_store.c": 'expected == ONE_ROW && strcmp(PQcmdTuples((PGresult *)result), "1") != 0'}
+ASKS = "ONE_ROW)"
 
 
 class Text(typing.TypedDict, total=False):
@@ -87,8 +89,9 @@ def outside() -> list[str]:
 
 
 def source_of(folder: str, file: str) -> str:
-    """A source with its comments blank."""
-    with open(os.path.join(folder, file), encoding="utf-8") as it:
+    """A source with its comments blank, of this folder if it is there."""
+    path = os.path.join(folder, file)
+    with open(path if os.path.exists(path) else os.path.join(SOURCES, file), encoding="utf-8") as it:
         return COMMENT.sub(lambda one: one[0] if one[0][0] == '"' else " " * len(one[0]), it.read())
 
 
@@ -98,7 +101,7 @@ def sql_of(literals: str) -> str:
 
 def text_of(source: str, name: str) -> re.Match[str]:
     """Where the text of this name stands."""
-    at = re.search(rf'\[{name}\] = \(?|"{name}",\s*(?=")|\b{name}\(\w+, (?=")', source)
+    at = re.search(rf'\[{name}\] = \(?|\b{name}\(\w+, (?=")', source)
     found = TEXT.match(source, at.end()) if at else None
     assert found, f"there is no text {name}"
     return found
@@ -268,7 +271,7 @@ def faults(folder: str, name: str, row: Row, text: Text) -> list[str]:
     key = [it.split()[0] for it in row.get("key", [])]
     if row["does"].startswith("INSERT") and key and made(folder, row, text)[1] != key:
         told.append(f"{where}: the key of its table is {made(folder, row, text)[1]}, not {key}")
-    if is_counted(source_of(folder, text["file"]), text["name"]) != row["is_counted"]:
+    if is_counted(folder, text) != row["is_counted"]:
         told.append(f"{where}: its count is {'not looked at' if row['is_counted'] else 'looked at'}")
     return told
 
@@ -277,14 +280,14 @@ def shown(value: typing.Union[str, frozenset[str]]) -> str:
     return value if isinstance(value, str) else str(sorted(value))
 
 
-def is_counted(source: str, name: str) -> bool:
+def is_counted(folder: str, text: Text) -> bool:
     """Whether the function that runs the text looks at its count."""
-    if re.search(rf'"{name}",\s*"', source):
-        return re.search(rf'"{name}", [^;"]*ONE_ROW\)', source) is not None
+    source, name = source_of(folder, text["file"]), text["name"]
+    if text["file"] in STORE_LOOKS:
+        asks = rf"sql\[[^;]*\b{name}\b[^;]*{re.escape(ASKS)}"
+        return STORE_LOOKS[text["file"]] in source and re.search(asks, source_of(folder, "store.c")) is not None
     bodies = [it[0] for it in re.finditer(r"^\{\n.*?^\}\n", source, re.S | re.M)]
-    users = [it for it in bodies if re.search(rf"statements\[[^\]]*\b{name}\b", it)]
-    looks = [look for look in LOOKS if any(look in it for it in users)]
-    return bool(looks) and (looks[0] != LOOKS[0] or MOVE_LOOKS in source)
+    return any(OUTBOX_LOOK in it for it in bodies if re.search(rf"statements\[[^\]]*\b{name}\b", it))
 
 
 # ---- texts that change something

@@ -51,7 +51,7 @@ static int step(struct store *s, struct reached from, uint64_t to, uint64_t numb
     if (store_begin(s, SHARD, &from, &end) != 0 || effect(s, number, "hello", 5) != 0
         || store_advance(s, name, &before, &after) != 0)
         return -1;
-    return store_commit(s);
+    return s->commit(s);
 }
 
 static int note(void *given, const char *session, const struct demand *demand)
@@ -122,7 +122,7 @@ static void test_compared(struct store *one)
         before.shard += i == 3;
         check(store_begin(one, SHARD, &from, &to) == 0, "begin");
         check(store_advance(one, name, &before, &after) == 0, "advance");
-        check(store_commit(one) == 1, "a session that is otherwise is fenced");
+        check(one->commit(one) == 1, "a session that is otherwise is fenced");
     }
     stands(one, 12, 9, 0, "nothing of them is stored");
 }
@@ -137,20 +137,20 @@ static void test_other_list(struct store *one, struct store *other)
     struct reached reached;
     reset.at = reset.missed = 0;
     check(store_begin(one, SHARD, &from, &from) == 0 && store_advance(one, name, &fine, &after) == 0
-              && store_commit(one) == 0, "it misses something");
-    check(store_begin(one, SHARD, &from, &to) == 0 && store_commit(one) == 0, "another list");
+              && one->commit(one) == 0, "it misses something");
+    check(store_begin(one, SHARD, &from, &to) == 0 && one->commit(one) == 0, "another list");
     check(store_reached(other, SHARD, &reached) == 0 && read_session(other, &found) == 0, "read");
     check(reached.incarnation == LIST + 1 && reached.offset == 3, "it is stored");
     check(found.at == 0 && found.missed == MISSED_NOTHING && found.next == 9, "its place");
     check(store_begin(one, SHARD, &to, &from) == 0 && store_advance(one, name, &reset, &fine) == 0
-              && store_commit(one) == 0, "back again");
+              && one->commit(one) == 0, "back again");
 }
 
 static void test_rollback(struct store *one, struct store *other)
 {
     const struct reached from = at(12), to = at(20);
     check(store_begin(one, SHARD, &from, &to) == 0 && effect(one, 9, "lost", 4) == 0, "begin");
-    store_rollback(one);
+    one->rollback(one);
     stands(other, 12, 9, 0, "what is given up isn't stored");
 }
 
@@ -167,7 +167,7 @@ static uint64_t test_two(struct store *one, struct store *other)
     check(store_advance(one, name, &before, &after) == 0, "advance");
     check(pthread_create(&thread, NULL, step_late, NULL) == 0, "thread");
     usleep(PAUSE);
-    answer = store_commit(one);
+    answer = one->commit(one);
     pthread_join(thread, NULL);
     check(answer >= 0 && answer + late_answer == 1, "of two at once one is fenced");
     stands(one, answer == 0 ? 14 : 15, 10, 0, "the other is stored");
@@ -190,17 +190,17 @@ static void test_lost(const char *where)
     for (tries = 0; answer != 0 && time(NULL) - began < LOST; tries++) {
         answer = store_begin(other, SHARD + 1, &nothing, &to);
         if (answer == 0)
-            answer = store_commit(other);
+            answer = other->commit(other);
         if (answer == 0)
             break;
-        store_close(other); /* as shard.c does */
+        other->close(other); /* as shard.c does */
         other = store_open(where, SHARD + 1);
         check(other != NULL, "open again");
     }
     check(tries > 0, "the one that is lost has locks");
     check(answer == 0, "they are let go");
-    store_close(other);
-    store_close(lost);
+    other->close(other);
+    lost->close(lost);
 }
 
 int main(int count, char **words)
@@ -221,10 +221,10 @@ int main(int count, char **words)
     before = demands(10, from.offset);
     check(store_begin(one, SHARD, &from, &to) == 0, "begin");
     check(store_advance(one, name, &before, &end) == 0, "the close");
-    check(store_commit(one) == 0, "commit");
+    check(one->commit(one) == 0, "commit");
     stands(other, 16, 11, 1, "closed");
-    store_close(one);
-    store_close(other);
+    one->close(one);
+    other->close(other);
     if (strncmp(words[1], "postgresql", 10) == 0) /* over SQLite a process alone may be lost */
         test_lost(words[1]);
     return check_status("store_test");

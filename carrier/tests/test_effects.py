@@ -243,6 +243,22 @@ def test_what_a_constraint_refuses_is_put_aside(ends, tries, batch):
     assert counted_aside(ends) == 3, ends.log()[-1000:]
 
 
+@pytest.mark.parametrize("batch", ["1", "4"])
+def test_what_a_trigger_of_the_rows_refuses_is_put_aside(ends, batch):
+    """Rows of `effect` are inserted together, but one that may be refused by itself."""
+    waits(ends, seconds=1)
+    ends.run("store", "CREATE TRIGGER no_bad BEFORE INSERT ON effect WHEN NEW.text = CAST('bad' AS BLOB)"
+                      " BEGIN SELECT RAISE(ABORT, 'it is bad'); END")
+    ends.batch = batch
+    ends.put([b"one", b"bad", b"two", b"bad", b"three"])
+    waits(ends)
+    assert ends.run("store", "SELECT count(*) FROM effect") == [(0,)] and "it is bad" in ends.log()
+    ends.to_the_end("--put-aside", "2")
+    assert ends.run("store", "SELECT text FROM effect ORDER BY id") == [(b"one",), (b"two",), (b"three",)]
+    assert aside(ends) == [("tom", b"bad", "it is bad")] * 2
+    assert ends.log().count("event=text_refused") == 4
+
+
 def counted_aside(ends):
     """How many texts the receivers counted as put aside until they ended: what is given up isn't counted."""
     return sum(int(it) for it in re.findall(r"event=shard_ended .*?\baside=(\d+)", ends.log()))
