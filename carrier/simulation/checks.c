@@ -116,14 +116,15 @@ void check_effect(struct world *w, uint32_t name)
                     place);
 }
 
-/* The effects of one outbox's texts under a name are in their order, each at most once. */
+/* The effects of one outbox's texts under a name are in their order, each at most once. Of two outboxes that put a text
+ * into records of different numbers, each may bring it. */
 static void check_order_of(struct world *w, const struct outbox *o, uint32_t name)
 {
     uint32_t next = 0;
     size_t i;
     for (i = 0; i < w->store.effects[name].count; i++) {
         uint32_t text = w->store.effects[name].at[i].text, place = w->texts.at[text].place;
-        if (world_number(&o->names[name].texts, place) != text)
+        if (world_number(&o->names[name].texts, place) != text || (w->has_copies && w->plan->batch > 1))
             continue;
         if (place < next)
             world_wrong(w, "text %u of name %u took effect after text %u", (unsigned)place, (unsigned)name,
