@@ -116,14 +116,15 @@ void check_effect(struct world *w, uint32_t name)
                     place);
 }
 
-/* The effects of one outbox's texts under a name are in their order, each at most once. */
+/* The effects of one outbox's texts under a name are in their order, each at most once. Of two outboxes that put a text
+ * into records of different numbers, each may bring it. */
 static void check_order_of(struct world *w, const struct outbox *o, uint32_t name)
 {
     uint32_t next = 0;
     size_t i;
     for (i = 0; i < w->store.effects[name].count; i++) {
         uint32_t text = w->store.effects[name].at[i].text, place = w->texts.at[text].place;
-        if (world_number(&o->names[name].texts, place) != text)
+        if (world_number(&o->names[name].texts, place) != text || (w->has_copies && w->plan->batch > 1))
             continue;
         if (place < next)
             world_wrong(w, "text %u of name %u took effect after text %u", (unsigned)place, (unsigned)name,
@@ -192,13 +193,16 @@ void check_done(struct world *w, uint32_t who, const struct sending *it)
 
 /* ---- The end */
 
-/* Whether texts or frames under a name wait at a sender, and whether a session says why. */
-struct waits { int has_waiting, is_reported; };
+/* Whether texts or frames under a name wait at a sender, whether a session says why, whether one is stopped, for which
+ * they wait for good, and whether one isn't. */
+struct waits { int has_waiting, is_reported, is_stopped, is_open; };
 
 static void add_session(struct world *w, const struct sending *it, struct waits *to)
 {
     struct state now = call_state(w, &it->end);
     to->has_waiting |= !now.settled || it->is_stopped;
+    to->is_stopped |= it->is_stopped;
+    to->is_open |= !now.settled && !it->is_stopped;
     to->is_reported |= now.stands != KRBRELAY_STANDS_NOT || it->is_stopped;
 }
 
@@ -219,12 +223,13 @@ static int has_unloaded(const struct world *w, const struct sender *s, uint32_t 
 static struct waits waits_of(struct world *w, const struct sender *s, uint32_t name)
 {
     const struct outbox *o = &w->outboxes[s->outbox];
-    int has_none = has_unloaded(w, s, name);
-    struct waits it = { has_none || o->names[name].sealed < o->names[name].texts.count, has_none };
+    int has_texts = o->names[name].sealed < o->names[name].texts.count, has_none = has_unloaded(w, s, name);
+    struct waits it = { has_none || has_texts, has_none, 0, has_none };
     size_t i;
     for (i = 0; i < s->sessions.count; i++)
         if (w->keys.at[s->sessions.at[i].key].name == name)
             add_session(w, &s->sessions.at[i], &it);
+    it.is_open |= has_texts && !it.is_stopped;
     return it;
 }
 
@@ -235,7 +240,7 @@ static int is_through(struct world *w, const struct sender *s)
         return 0;
     for (name = 0; s->is_owner && name < w->plan->names; name++) {
         struct waits it = waits_of(w, s, name);
-        if (it.has_waiting)
+        if (it.is_open)
             return 0;
     }
     return 1;

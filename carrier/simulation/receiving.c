@@ -3,7 +3,7 @@
 
 #include <string.h>
 
-enum { FRAMES = 32, QUIET = 5000, POLL = 1000, OWING = 60 };
+enum { FRAMES = 32, QUIET = 5000, POLL = 2000, OWING = 60 };
 
 uint64_t receiver_now(const struct world *w, const struct receiver *r)
 {

@@ -4,7 +4,7 @@
 
 #include <string.h>
 
-enum { STORED = 512, LATER = 2000, MOST_TRIES = 7, PAUSE = 100 };
+enum { MOST_STORED = 512, LATER = 2000, MOST_TRIES = 7, PAUSE = 100 };
 
 void sender_ask_to_store(struct world *w, uint32_t who, uint64_t delay)
 {
@@ -138,7 +138,7 @@ static void gather(const struct world *w, const struct numbers *texts, size_t fr
 static uint64_t room_of(struct world *w, const struct sending *it)
 {
     const struct krbrelay_progress *progress = &it->end.progress;
-    uint64_t stored = it->sealed - progress->carried, most = STORED;
+    uint64_t stored = it->sealed - progress->carried, most = MOST_STORED;
     if (it->is_stopped)
         return 0;
     if (w->plan->has_small_room)
@@ -244,11 +244,13 @@ static void note_stored(struct world *w, uint32_t who, struct sending *it)
     sender_note(w, who, it);
 }
 
-/* What was touched is what the outbox has. */
-static void load_again(struct world *w, uint32_t who, struct sending *it)
+enum outcome { STORED, FAILED, UNSURE };
+
+/* The frames of a transaction are gone with it. If nobody knows, the session is what the outbox has. */
+static void load_again(struct world *w, uint32_t who, struct sending *it, enum outcome outcome)
 {
     it->is_closing = 0;
-    if (w->plant == PLANT_OUTBOX_STAYS)
+    if (w->plant == PLANT_OUTBOX_STAYS || (outcome == FAILED && w->plant != PLANT_LEAVES_UNSTORED))
         it->sealed = it->end.progress.next;
     else
         sender_load(w, who, it);
@@ -257,16 +259,16 @@ static void load_again(struct world *w, uint32_t who, struct sending *it)
     sender_note(w, who, it);
 }
 
-static void note_touched(struct world *w, uint32_t who, int is_stored)
+static void note_touched(struct world *w, uint32_t who, enum outcome outcome)
 {
     struct sender *s = &w->senders[who];
     size_t i;
     for (i = 0; i < s->sealing.touched.count; i++) {
         struct sending *it = &s->sessions.at[s->sealing.touched.at[i]];
-        if (is_stored)
+        if (outcome == STORED)
             note_stored(w, who, it);
         else
-            load_again(w, who, it);
+            load_again(w, who, it, outcome);
     }
 }
 
@@ -300,20 +302,26 @@ static void end_transaction(struct sender *s)
     memset(s->sealing.taken, 0, sizeof s->sealing.taken);
 }
 
-/* The outcome of a transaction: it took effect, or not, or nobody knows. */
+/* Whether a transaction took effect. One of a sender that doesn't own the outbox any more has none. */
+static enum outcome outcome_of(struct world *w, struct sender *s)
+{
+    if (!outbox_may_commit(w, s))
+        return UNSURE;
+    if (world_strikes(w, FAULT_OUTBOX_FAILS, 200))
+        return FAILED;
+    outbox_commit(w, s);
+    return world_strikes(w, FAULT_OUTBOX_UNKNOWN, 200) ? UNSURE : STORED;
+}
+
 void sender_commit(struct world *w, uint32_t who)
 {
     struct sender *s = &w->senders[who];
-    int fails = !outbox_may_commit(w, s) || world_strikes(w, FAULT_OUTBOX_FAILS, 200);
-    int is_known;
-    if (!fails)
-        outbox_commit(w, s);
-    is_known = fails || !world_strikes(w, FAULT_OUTBOX_UNKNOWN, 200);
-    note_touched(w, who, !fails && is_known);
-    if (!fails && is_known)
+    enum outcome outcome = outcome_of(w, s);
+    note_touched(w, who, outcome);
+    if (outcome == STORED)
         note_clean(s);
     else
         forget_streams(s);
     end_transaction(s);
-    sender_ask_to_store(w, who, fails ? PAUSE : 10);
+    sender_ask_to_store(w, who, outcome == STORED ? 10 : PAUSE);
 }

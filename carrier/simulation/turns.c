@@ -3,7 +3,7 @@
 
 #include <string.h>
 
-enum { SERVED = 8, HELD = 100 };
+enum { SERVED = 8, HELD = 300 };
 
 /* ---- What has changed of a session */
 
