@@ -8,7 +8,7 @@
  * A text that an effect refuses is tried again, with all of its transaction, since what refuses it now may take
  * it later. With --put-aside N it becomes a row of the table `aside` once it was refused N times, with the
  * reason, and its session goes on. Only what the text itself is the cause of counts as a refusal: a constraint
- * that it violates, or an exception that a trigger raises (store_refusal), and what a command says. A store that
+ * that it violates, or an exception that a trigger raises (`refusal` of a store), and what a command says. A store that
  * is away, a table that isn't there, a command that ends: those are faults, and never put a text aside. */
 #ifndef EFFECTS_H
 #define EFFECTS_H

@@ -382,7 +382,7 @@ static int note_stored(struct shard *s)
     return answer;
 }
 
-/* Answers as store_commit. */
+/* Answers as `commit` of a store. */
 static int take_all(struct shard *s, int count)
 {
     const struct reached from = { s->reading.stored.list, s->reading.stored.offset };
