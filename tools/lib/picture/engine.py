@@ -76,7 +76,7 @@ def panel(picture: svg.Picture, place: int, part: Part) -> None:
     picture.text(x + 10, TOP + 20, part.name, "head")
     picture.text(x + 10, TOP + 36, part.each, "small muted")
     half = x + 10 + (PANEL - 20) * 0.48
-    for left, title, words in ((x + 10, "hears", part.events), (half, "says", part.commands)):
+    for left, title, words in ((x + 10, "events", part.events), (half, "commands", part.commands)):
         picture.text(left, TOP + 58, title, "muted")
         for row, it in enumerate(line for each in words for line in lines(each)):
             picture.text(left, TOP + 74 + ROW * row, it, "small")
@@ -117,16 +117,16 @@ def stores(picture: svg.Picture) -> None:
 
 
 def draw() -> str:
-    picture = svg.Picture(WIDTH, STORES + TALL + 58, "Both ends of a carrier: what each part hears and says",
+    picture = svg.Picture(WIDTH, STORES + TALL + 58, "Both ends of a carrier: the events and commands of each part",
                           "The tables of docs/ENGINE.md say what each event does, and when each command comes.")
-    picture.text(EDGE, 26, "Both ends of a carrier: what each part hears and says", "title")
+    picture.text(EDGE, 26, "Both ends of a carrier: the events and commands of each part", "title")
     for x, words in ((EDGE, "A sender"), (EDGE + 2 * (PANEL + GAP), "A receiver")):
         picture.text(x, 56, words, "head")
     for place, part in enumerate(PARTS):
         panel(picture, place, part)
     stores(picture)
-    for row, words in enumerate(("Solid boxes are krb_engine's and krb_queue's, dashed ones the caller's. Only the"
-                                 " sender repeats:", "it sends again what isn't confirmed, or what a receipt asks for."
-                                 " Only a receipt deletes.")):
+    for row, words in enumerate(("The panels are parts of krb_engine and krb_queue; the caller keeps what is in dashed boxes.",
+                                 "Only the sender repeats: what isn't confirmed, or what a receipt asks for. Only a"
+                                 " receipt deletes.")):
         picture.text(EDGE, STORES + TALL + 28 + ROW * row, words, "muted")
     return picture.whole()
