@@ -125,8 +125,8 @@ int receiver_take(struct world *w, struct receiver *r, const struct item *item, 
     const struct frame *frame = &w->frames.at[item->frame];
     struct receiving *it = receiver_find(r, item->key);
     uint32_t outcome;
-    if (it == NULL || it->turn != r->turn)
-        return 0; /* it is nobody's here */
+    if (it == NULL || it->turn != r->turn || offset < it->opened_at)
+        return 0; /* it is nobody's here, or comes before the opening that begins its session */
     note_taken(w, r, it);
     if (it->opened.is_there && frame->kind == FRAME_OPENING) {
         take_opening(w, r, it, frame, offset);
