@@ -10,6 +10,14 @@ use crate::compression::compress;
 use std::marker::Model;
 use std::simd::u32x8;
 
+// The block that follows the first one where 20 bytes do, with zeros in their place, and then the padding of
+// 84 bytes (FIPS 180-4, section 5.1.1): it ends with their number of bits, 672.
+const BLOCK_OF_20: [u8; 64] = [
+    0, 0, 0, 0, 0, 0, 0, 0, 0, 0, 0, 0, 0, 0, 0, 0, 0, 0, 0, 0, 0x80, 0, 0, 0, 0, 0, 0, 0, 0, 0, 0,
+    0, 0, 0, 0, 0, 0, 0, 0, 0, 0, 0, 0, 0, 0, 0, 0, 0, 0, 0, 0, 0, 0, 0, 0, 0, 0, 0, 0, 0, 0, 0,
+    0x02, 0xa0,
+];
+
 /// How many messages are hashed side by side.
 pub const MESSAGES: usize = 8;
 
@@ -110,6 +118,49 @@ fn blocks_at(rests: &[Rest<'_>; 8], n: usize) -> [[u8; 64]; 8]
     ]
 }
 
+// The one block that follows the first where 20 bytes do.
+fn block_of_20(bytes: &[u8; 20]) -> [u8; 64]
+    ensures one { rest_blocks bytes.now ≡ 1 }
+    ensures block { result ≡ rest_block bytes.now 0 }
+{
+    let mut block = BLOCK_OF_20;
+    block[..20].copy_from_slice(bytes);
+    block
+}
+
+// That of each message.
+fn blocks_of_20(messages: &[[u8; 20]; 8]) -> [[u8; 64]; 8]
+    ensures one { (j : ℕ) → j < 8 → rest_blocks (message j messages.now) ≡ 1 }
+    ensures blocks { (j : ℕ) → j < 8 → message j result ≡ rest_block (message j messages.now) 0 }
+{
+    [
+        block_of_20(&messages[0]),
+        block_of_20(&messages[1]),
+        block_of_20(&messages[2]),
+        block_of_20(&messages[3]),
+        block_of_20(&messages[4]),
+        block_of_20(&messages[5]),
+        block_of_20(&messages[6]),
+        block_of_20(&messages[7]),
+    ]
+}
+
+// The bytes of the hash value of each message.
+fn digests_of(state: &[u32x8; 5]) -> [[u8; 20]; 8]
+    ensures { (j : ℕ) → j < 8 → message j result ≡ digest_bytes (lane j state.now) 5 }
+{
+    [
+        bytes_of(&hash_of(state, 0)),
+        bytes_of(&hash_of(state, 1)),
+        bytes_of(&hash_of(state, 2)),
+        bytes_of(&hash_of(state, 3)),
+        bytes_of(&hash_of(state, 4)),
+        bytes_of(&hash_of(state, 5)),
+        bytes_of(&hash_of(state, 6)),
+        bytes_of(&hash_of(state, 7)),
+    ]
+}
+
 // How many blocks the longest has.
 fn most_blocks(rests: &[Rest<'_>; 8]) -> usize
     ensures { (j : ℕ) → j < 8 → rest_blocks (message j rests.now) ≤ result }
@@ -160,6 +211,16 @@ impl Prefix {
             note_ended(&mut digests, &state, &rests, n + 1);
         }
         digests
+    }
+
+    /// The same of messages of which each is the block followed by 20 bytes, as the digests are that HMAC hashes last.
+    pub fn digests_of_20(&self, messages: &[[u8; 20]; 8]) -> [[u8; 20]; 8]
+        ensures { (block : List ℕ) (j : ℕ) → length block ≡ 64 → self.now ≡ after_block block → j < 8
+            → message j result ≡ sha1 (block ++ message j messages.now) }
+    {
+        let mut state = each(&self.hash);
+        compress(&mut state, &blocks_of_20(messages));
+        digests_of(&state)
     }
 
     /// Overwrites the hash value with zeros.

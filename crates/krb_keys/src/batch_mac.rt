@@ -44,9 +44,7 @@ impl BatchMac {
             → message j result ≡ hmac key (message j (texts messages.now)) }
     {
         let first = self.inner.digests(messages);
-        self.outer.digests(&[
-            &first[0], &first[1], &first[2], &first[3], &first[4], &first[5], &first[6], &first[7],
-        ])
+        self.outer.digests_of_20(&first)
     }
 
     /// HMAC-SHA1-96 (RFC 3962, section 6) of eight texts: the first 12 bytes of each code.
