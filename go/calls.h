@@ -67,6 +67,20 @@ static inline enum krbrelay_answer seal_many(struct krbrelay_sealer *sealer, str
                         : krbrelay_peer_seal_many(peer, messages, count, frames, room, sizes, failed);
 }
 
+// The frames stand one after the other, for the same reason.
+static inline enum krbrelay_answer take_many(struct krbrelay_receiver *handle, const uint8_t *frames,
+                                             const size_t *lens, size_t count, const struct krbrelay_moment *at,
+                                             uint8_t *bytes, size_t room, struct krbrelay_taken *taken)
+{
+    struct krbrelay_frame all[KRBRELAY_MOST_FRAMES];
+    for (size_t i = 0; i < count && i < KRBRELAY_MOST_FRAMES; i++) {
+        all[i].bytes = frames;
+        all[i].bytes_len = lens[i];
+        frames += lens[i];
+    }
+    return krbrelay_receiver_take_many(handle, all, count, at, bytes, room, taken);
+}
+
 static inline void free_sealer(struct krbrelay_sealer *handle)
 {
     krbrelay_sealer_free(handle);

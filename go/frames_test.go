@@ -197,6 +197,76 @@ func TestReceiversTakeThem(t *testing.T) {
 	}
 }
 
+// onTheWay is frames of one session, of which one comes again, one is cut off and one is changed.
+func onTheWay(t *testing.T, key []byte, mode krbrelay.Mode) [][]byte {
+	by := must[*krbrelay.Sealer](t)(krbrelay.NewSealer(etypeOf(key), key, session(mode, first)))
+	defer by.Close()
+	var sent [][]byte
+	for i := 0; len(sent) < krbrelay.MostFrames; i++ {
+		frame := must[[]byte](t)(by.SealRecordAt(krbrelay.Text(bytes.Repeat([]byte{byte(i)}, 41*i)), then, [16]byte{1}))
+		sent = append(sent, frame)
+		switch i {
+		case 4:
+			sent = append(sent, sent[2])
+		case 6:
+			sent = append(sent, frame[:20], nil)
+		case 11:
+			changed := append([]byte(nil), frame...)
+			changed[len(changed)-1] ^= 1
+			sent[len(sent)-1] = changed
+			sent = append(sent, frame)
+		}
+	}
+	return sent[:krbrelay.MostFrames]
+}
+
+// What a call takes is what as many calls take, of which the rows above compare with another sealer's frames.
+func TestFramesOfOneCall(t *testing.T) {
+	from := krbrelay.State{Expected: uint64(first)}
+	for _, key := range [][]byte{key128, key256} {
+		for _, mode := range []krbrelay.Mode{krbrelay.Safe, krbrelay.Priv} {
+			sent := onTheWay(t, key, mode)
+			for _, count := range []int{0, 1, 7, 8, 9, 30, krbrelay.MostFrames} {
+				single := must[*krbrelay.Receiver](t)(krbrelay.NewReceiver(etypeOf(key), key, expect(mode), from))
+				many := must[*krbrelay.Receiver](t)(krbrelay.NewReceiver(etypeOf(key), key, expect(mode), from))
+				taken := must[[]krbrelay.Taken](t)(many.TakeMany(sent[:count], then))
+				if len(taken) != count {
+					t.Fatalf("%d of %d", len(taken), count)
+				}
+				for i, frame := range sent[:count] {
+					record, err := single.Take(frame, then)
+					if !reflect.DeepEqual(taken[i], krbrelay.Taken{Record: record, Err: err}) {
+						t.Errorf("frame %d of %d: %v", i, count, taken[i])
+					}
+				}
+				if must[krbrelay.State](t)(many.State()) != must[krbrelay.State](t)(single.State()) {
+					t.Errorf("%d frames: another state", count)
+				}
+				single.Close()
+				many.Close()
+			}
+		}
+	}
+}
+
+func TestWhatACallOfSeveralRefusesAsAWhole(t *testing.T) {
+	from := krbrelay.State{Expected: uint64(first)}
+	taker := must[*krbrelay.Receiver](t)(krbrelay.NewReceiver(17, key128, expect(krbrelay.Safe), from))
+	if _, err := taker.TakeMany(make([][]byte, krbrelay.MostFrames+1), then); !errors.Is(err, krbrelay.ErrArgument) {
+		t.Errorf("too many: %v", err)
+	}
+	if _, err := taker.TakeMany([][]byte{frames(t)["safe 17"]}, time.Unix(-1, 0)); !errors.Is(err, krbrelay.ErrMoment) {
+		t.Errorf("no moment: %v", err)
+	}
+	if state := must[krbrelay.State](t)(taker.State()); state != from {
+		t.Errorf("then %v", state)
+	}
+	taker.Close()
+	if _, err := taker.TakeMany(nil, then); !errors.Is(err, krbrelay.ErrEmpty) {
+		t.Errorf("closed: %v", err)
+	}
+}
+
 func TestOpenersOpenThem(t *testing.T) {
 	known := frames(t)
 	for _, row := range rows {

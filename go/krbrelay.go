@@ -33,6 +33,8 @@ const (
 	AddressLimit = 40
 	// MostMessages is the most messages that are sealed in one call.
 	MostMessages = 64
+	// MostFrames is the most frames that are taken in one call.
+	MostFrames = 64
 	// end of limits
 	// PeerStateSize is the bytes of a peer's two numbers.
 	PeerStateSize = 20

@@ -54,6 +54,11 @@ func (r *Receiver) Take(frame []byte, t time.Time) (Record, error) {
 		return C.krbrelay_receiver_take_numbered(&r.raw, at(frame), C.size_t(len(frame)), &now, &kind,
 			to.at, to.room, to.size, &number)
 	})
+	return outcome(err, number, kind, bytes)
+}
+
+// outcome is what taking a message gave.
+func outcome(err error, number C.uint64_t, kind C.uint32_t, bytes []byte) (Record, error) {
 	if err == ErrBadOrder && number <= lastNumber {
 		return nil, OutOfOrder{uint32(number)}
 	}
@@ -61,6 +66,55 @@ func (r *Receiver) Take(frame []byte, t time.Time) (Record, error) {
 		return nil, err
 	}
 	return recordOf(uint32(kind), bytes)
+}
+
+// Taken is what taking one of several messages gives: its record, or the error of a call of its own.
+type Taken struct {
+	Record Record
+	Err    error
+}
+
+// TakeMany is what as many calls of Take give one after another, at one moment: quicker, since the library computes
+// the codes of eight messages side by side. A message that is refused changes nothing, and those after it are
+// taken. ErrArgument of more than MostFrames, ErrMoment, ErrEmpty: then no message was taken.
+func (r *Receiver) TakeMany(frames [][]byte, t time.Time) ([]Taken, error) {
+	now, err := moment(t)
+	if err != nil {
+		return nil, err
+	}
+	if len(frames) > MostFrames {
+		return nil, ErrArgument
+	}
+	var lens [MostFrames]C.size_t
+	var taken [MostFrames]C.struct_krbrelay_taken
+	var all []byte
+	room := 0
+	for i, frame := range frames {
+		lens[i], room, all = C.size_t(len(frame)), room+roomOfData(frame), append(all, frame...)
+	}
+	records := make([]byte, room)
+	r.lock.Lock()
+	defer r.lock.Unlock()
+	err = checked(C.take_many(&r.raw, at(all), &lens[0], C.size_t(len(frames)), &now, at(records), C.size_t(room),
+		&taken[0]))
+	if err != nil {
+		return nil, err
+	}
+	return outcomes(taken[:len(frames)], records), nil
+}
+
+// outcomes has what was taken, with the records that stand one after the other.
+func outcomes(taken []C.struct_krbrelay_taken, records []byte) []Taken {
+	found := make([]Taken, len(taken))
+	for i, it := range taken {
+		err, size := checked(answer(it.answer)), C.size_t(0)
+		if err == nil {
+			size = it.size
+		}
+		found[i].Record, found[i].Err = outcome(err, it.number, it.kind, records[:size:size])
+		records = records[size:]
+	}
+	return found
 }
 
 // State is what to go on from. ErrEmpty.

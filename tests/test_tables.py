@@ -17,6 +17,7 @@ REFUSALS, LIMITS = "crates/krb_seal/src/refusal.rt", "crates/krb_base/src/limits
 HELP = "crates/krb_program/src/help.rt"
 # The structs of the C library in Rust, and how C writes their types. Handles are none of them.
 STRUCTS = ("crates/krb_structs/src/*.rt", "crates/krb_bulk_structs/src/unsealed.rt",
+           "crates/krb_takes/src/frame.rt", "crates/krb_takes/src/taken.rt",
            "crates/krb_carrier_structs/src/*.rt", "crates/krb_window/src/window.rt")
 HANDLES = {"sealer", "opener", "receiver", "peer", "queue"}
 C_TYPES = {"uint64_t": "u64", "uint32_t": "u32", "int32_t": "i32", "uint8_t": "u8", "size_t": "usize",
@@ -30,7 +31,7 @@ PYTHON_TYPES = {"c_uint64": "u64", "c_uint32": "u32", "c_int32": "i32", "c_uint8
 LENT = re.compile(r"&'\w+ \[u8\]")
 ORACLE = "tests/oracle"
 SIZES = ("crates/krb_structs/src/room.rt", "crates/krb_structs/src/session.rt",
-         "crates/krb_bulk_structs/src/many.rt", "crates/krb_commands/src/input.rt")
+         "crates/krb_bulk_structs/src/many.rt", "crates/krb_takes/src/many.rt", "crates/krb_commands/src/input.rt")
 VERSION, PAGES = "VERSION", "c/man"
 CALLS, PACKAGE = "crates/krb_c/src/message_calls.rt", "python/tests/test_library.py"
 # Where the version stands: the file, the words around it, and what of it stands there. A symbol's
@@ -308,8 +309,8 @@ def of_refusals():
 
 def of_limits():
     limits = constants(LIMITS)
-    room, session, many, job = map(constants, SIZES)
-    proved = limits | {"ADDRESS_ROOM": session["ADDRESS_ROOM"], "LIMIT": job["LIMIT"], **many}
+    room, session, many, takes, job = map(constants, SIZES)
+    proved = limits | {"ADDRESS_ROOM": session["ADDRESS_ROOM"], "LIMIT": job["LIMIT"], **many, **takes}
     for of, rows in tomllib.loads(building.text_of("tables/limits.toml")).items():
         for name, row in rows.items():
             yield f"tables/limits.toml, {of}.{name}", row["number"], proved[row.get("proved", name)]

@@ -44,6 +44,8 @@ void *realloc(void *block, size_t size)
 static uint8_t key[32], data[MOST], frame[FRAME], out[MANY * FRAME];
 static const uint8_t confounder[16] = { 1, 2, 3 };
 static struct krbrelay_unsealed many[MANY];
+static struct krbrelay_frame together[MANY];
+static uint8_t frames[MANY * FRAME];
 static size_t data_len, frame_len, told, sizes[KRBRELAY_MOST_MESSAGES];
 static uint32_t kind, mode;
 static int32_t etype;
@@ -118,6 +120,15 @@ static enum krbrelay_answer take(void)
     return krbrelay_receiver_take(&receiver, frame, frame_len, &now, &kind, out, FRAME, &told);
 }
 
+static enum krbrelay_answer take_many(void)
+{
+    struct krbrelay_taken taken[KRBRELAY_MOST_FRAMES];
+    enum krbrelay_answer answer = krbrelay_receiver_take_many(&receiver, together, MANY, &now, out, sizeof out, taken);
+    for (int i = 0; i < MANY && answer == KRBRELAY_OK; i++)
+        answer = (enum krbrelay_answer)taken[i].answer;
+    return answer;
+}
+
 static enum krbrelay_answer peer_seal(void)
 {
     return krbrelay_peer_seal(&peer, data, data_len, &now, confounder, out, FRAME, &told);
@@ -147,6 +158,7 @@ static const struct call { const char *name; enum krbrelay_answer (*made)(void);
     { "sealer_seal_many", seal_many, 0, 0 }, { "sealer_frame_size", frame_size, 0, 0 }, { "peer_seal", peer_seal, 0, 0 },
     { "peer_seal_many", peer_seal_many, 0, 0 },
     { "opener_unseal", unseal, 0, 1 }, { "opener_open", open_it, 0, 1 }, { "receiver_take", take, 0, 1 },
+    { "receiver_take_many", take_many, 0, 0 },
     { "peer_open", peer_open, 0, 1 }, { "message_header", header, 0, 1 },
 };
 
@@ -166,12 +178,23 @@ static void end_all(void)
     krbrelay_peer_free(&peer);
 }
 
-static void seal_frame(void)
+/* A frame, and as many as are taken together, of which it is the first. */
+static void seal_frames(void)
 {
     make_all();
-    check(krbrelay_sealer_seal_record(&sealer, KRBRELAY_TEXT, data, data_len, &now, confounder, frame, FRAME,
-                                      &frame_len) == KRBRELAY_OK, "no frame");
+    for (int i = 0; i < MANY; i++) {
+        together[i].bytes = frames + i * FRAME;
+        check(krbrelay_sealer_seal_record(&sealer, KRBRELAY_TEXT, data, data_len, &now, confounder,
+                                          frames + i * FRAME, FRAME, &together[i].bytes_len) == KRBRELAY_OK, "no frame");
+    }
+    frame_len = together[0].bytes_len;
+    memcpy(frame, frames, frame_len);
     end_all();
+}
+
+static int is_of_many(const struct call *call)
+{
+    return call->made == seal_many || call->made == peer_seal_many || call->made == take_many;
 }
 
 static void measure(const struct call *call, const char *what)
@@ -187,7 +210,7 @@ static void measure(const struct call *call, const char *what)
     CALLGRIND_TOGGLE_COLLECT;
     snprintf(line, sizeof line, "%s|%s|%u|%d|%zu|%u|%zu|%zu|%zu|%zu", call->name, what, mode, (int)etype, data_len,
              (unsigned)answer, asked.times, asked.bytes, asked.largest,
-             call->made == seal_many || call->made == peer_seal_many ? MANY * frame_len : frame_len);
+             is_of_many(call) ? MANY * frame_len : frame_len);
     CALLGRIND_DUMP_STATS_AT(line);
     puts(line);
     end_all();
@@ -212,7 +235,7 @@ static int is_asked(const char *call, int count, char **names)
 
 static void measure_all(int count, char **names)
 {
-    seal_frame();
+    seal_frames();
     for (int i = 0; i < MANY; i++) {
         many[i] = (struct krbrelay_unsealed){ .user_data = data, .user_data_len = data_len, .at = now };
         memcpy(many[i].confounder, confounder, sizeof confounder);

@@ -97,12 +97,27 @@ static void use_opener(void)
     krbrelay_opener_free(&o);
 }
 
+/* Frames in one call first: eight side by side, and the last ones singly. */
+static void take_many(struct krbrelay_receiver *r)
+{
+    enum { COUNT = KRBRELAY_MOST_FRAMES - 1 };
+    static struct krbrelay_taken taken[KRBRELAY_MOST_FRAMES];
+    struct krbrelay_frame all[COUNT];
+    for (int i = 0; i < COUNT; i++)
+        all[i] = (struct krbrelay_frame){ frame, frame_size };
+    CHECK(krbrelay_receiver_take_many(r, all, COUNT, &now, text, ROOM, taken) == KRBRELAY_OK);
+    CHECK(taken[0].answer == KRBRELAY_OK && taken[COUNT - 1].answer == KRBRELAY_BADORDER);
+}
+
 static void use_receiver(void)
 {
     struct krbrelay_expect expect = expect_of(use.mode);
     struct krbrelay_receiver r = KRBRELAY_INIT;
     uint32_t kind = 0;
     size_t size = 0;
+    CHECK(krbrelay_receiver_new(&r, use.etype, key, key_size(use.etype), &expect, 7, 0)
+          == KRBRELAY_OK);
+    take_many(&r);
     CHECK(krbrelay_receiver_new(&r, use.etype, key, key_size(use.etype), &expect, 7, 0)
           == KRBRELAY_OK);
     CHECK(krbrelay_receiver_take(&r, frame, frame_size, &now, &kind, text, ROOM, &size)

@@ -81,6 +81,8 @@ static void empty_handles(void)
     struct krbrelay_moment at = moment(SECS, USEC);
     struct krbrelay_carried carried;
     const struct krbrelay_unsealed message = { .user_data = key, .user_data_len = 3, .at = at };
+    const struct krbrelay_frame one = { priv_17, sizeof priv_17 };
+    struct krbrelay_taken taken[KRBRELAY_MOST_FRAMES];
     uint8_t in_place[sizeof priv_17];
     size_t size = 99, sizes[KRBRELAY_MOST_MESSAGES], failed = 99;
     uint64_t number = 99;
@@ -102,6 +104,7 @@ static void empty_handles(void)
           == KRBRELAY_EMPTY);
     CHECK(krbrelay_receiver_take_numbered(&r, priv_17, sizeof priv_17, &at, &kind, text, sizeof text,
                                           &size, &number) == KRBRELAY_EMPTY);
+    CHECK(krbrelay_receiver_take_many(&r, &one, 1, &at, text, sizeof text, taken) == KRBRELAY_EMPTY);
     CHECK(krbrelay_receiver_state(&r, &number, &kind) == KRBRELAY_EMPTY);
     CHECK(krbrelay_peer_seal_now(&p, key, 3, frame, sizeof frame, &size) == KRBRELAY_EMPTY);
     CHECK(krbrelay_peer_open(&p, priv_17, sizeof priv_17, &at, text, sizeof text, &size, &carried)

@@ -249,6 +249,40 @@ static void take_in_each_way(int etype)
     krbrelay_receiver_free(&r);
 }
 
+/* Frames in one call, eight side by side and one at a time: taken, and refused after they were deciphered, for
+ * their room, for their number, for their code and as no record. */
+static void take_several_in_each_way(int etype)
+{
+    enum { COUNT = 58 };
+    static uint8_t frames[COUNT][ROOM], bytes[COUNT * ROOM];
+    struct krbrelay_session session = session_of(KRBRELAY_PRIV, 7);
+    struct krbrelay_expect expect = expect_of(KRBRELAY_PRIV);
+    struct krbrelay_frame all[COUNT];
+    struct krbrelay_taken taken[KRBRELAY_MOST_FRAMES];
+    struct krbrelay_sealer s = { 0 };
+    struct krbrelay_receiver r = { 0 };
+    CHECK(krbrelay_sealer_new(&s, etype, key, key_size(etype), &session) == KRBRELAY_OK);
+    for (size_t i = 0; i < COUNT; i++) {
+        all[i].bytes = frames[i];
+        CHECK((i == 9 ? krbrelay_sealer_seal(&s, user_data, SIZE, &now, confounder, frames[i], ROOM, &all[i].bytes_len)
+               : krbrelay_sealer_seal_record(&s, KRBRELAY_TEXT, user_data, SIZE, &now, confounder, frames[i], ROOM,
+                                             &all[i].bytes_len)) == KRBRELAY_OK);
+    }
+    frames[5][all[5].bytes_len - 1] ^= 1;
+    CHECK(krbrelay_receiver_new(&r, etype, key, key_size(etype), &expect, 7, 0) == KRBRELAY_OK);
+    CHECK(krbrelay_receiver_take_many(&r, all, COUNT, &now, bytes, SIZE - 1, taken) == KRBRELAY_OK);
+    CHECK(taken[0].answer == KRBRELAY_ROOM && taken[1].answer == KRBRELAY_BADORDER);
+    CHECK(krbrelay_receiver_take_many(&r, all, COUNT, &now, bytes, sizeof bytes, taken) == KRBRELAY_OK);
+    CHECK(taken[4].answer == KRBRELAY_OK && taken[5].answer == KRBRELAY_BAD_INTEGRITY);
+    CHECK(taken[6].answer == KRBRELAY_BADORDER && taken[COUNT - 1].answer == KRBRELAY_BADORDER);
+    krbrelay_receiver_free(&r);
+    CHECK(krbrelay_receiver_new(&r, etype, key, key_size(etype), &expect, 16, 0) == KRBRELAY_OK);
+    CHECK(krbrelay_receiver_take_many(&r, all, COUNT, &now, bytes, sizeof bytes, taken) == KRBRELAY_OK);
+    CHECK(taken[9].answer == KRBRELAY_BAD_RECORD && taken[10].answer == KRBRELAY_BADORDER);
+    krbrelay_sealer_free(&s);
+    krbrelay_receiver_free(&r);
+}
+
 /* Several messages in one call, eight side by side, four and one, by a sealer and by a peer: sealed, and refused
  * for their room once they are made. */
 static void seal_several_in_each_way(int etype)
@@ -338,6 +372,7 @@ static void end_in_each_way(void)
         unseal_in_each_way(etype);
         open_in_each_way(etype);
         take_in_each_way(etype);
+        take_several_in_each_way(etype);
         seal_several_in_each_way(etype);
         open_by_a_peer_in_each_way(etype);
     }

@@ -625,6 +625,24 @@ static void go_over(const uint8_t *batch, size_t size)
     HOLDS(texts == 2 || texts == 3);
 }
 
+/* What a receiver answers to a frame at a moment that is one. */
+static enum krbrelay_answer of_taking(const struct held *m, const struct sealed *f, const struct krbrelay_moment *at,
+                                      size_t room)
+{
+    return FIRST_OF(UNLESS(!m->closed, KRBRELAY_AFTER_CLOSE), of_unsealing(m, f, m->number, at),
+                    UNLESS(f->kind != 0, KRBRELAY_BAD_RECORD), UNLESS(f->len <= 1 + room, KRBRELAY_ROOM));
+}
+
+/* It gave the frame's record, and goes on. */
+static void accepted(struct held *m, const struct sealed *f, uint32_t kind, const uint8_t *data, size_t size)
+{
+    HOLDS(kind == f->kind && size == f->len - 1 && memcmp(data, f->user + 1, size) == 0);
+    m->number++;
+    m->closed = kind == KRBRELAY_CLOSE;
+    if (kind == KRBRELAY_BATCH)
+        go_over(data, size);
+}
+
 static void take(size_t i)
 {
     struct held *m = &receivers[i].m;
@@ -635,9 +653,7 @@ static void take(size_t i)
     uint64_t number = 777;
     size_t size = 777, room = some_data_room(f->len - (size_t)(f->len > 0));
     enum krbrelay_answer before = FIRST_OF(UNLESS(m->life != NOTHING, KRBRELAY_EMPTY), of_moment(&at));
-    enum krbrelay_answer expected = before != KRBRELAY_OK ? before
-        : FIRST_OF(UNLESS(!m->closed, KRBRELAY_AFTER_CLOSE), of_unsealing(m, f, m->number, &at),
-                   UNLESS(f->kind != 0, KRBRELAY_BAD_RECORD), UNLESS(f->len <= 1 + room, KRBRELAY_ROOM));
+    enum krbrelay_answer expected = before != KRBRELAY_OK ? before : of_taking(m, f, &at, room);
     if (one_in(2)) {
         answered(krbrelay_receiver_take_numbered(&receivers[i].h, f->frame, f->size, &at, &kind, data,
                                                  room, &size, &number), expected,
@@ -651,11 +667,48 @@ static void take(size_t i)
         HOLDS(kind == 99 && size == 777);
         return;
     }
-    HOLDS(kind == f->kind && size == f->len - 1 && memcmp(data, f->user + 1, size) == 0);
-    m->number++;
-    m->closed = kind == KRBRELAY_CLOSE;
-    if (kind == KRBRELAY_BATCH)
-        go_over(data, size);
+    accepted(m, f, kind, data, size);
+}
+
+enum { TOGETHER = 10 };
+
+/* What one of several frames gives, after those before it. Answers how many bytes it wrote. */
+static size_t is_taken(struct held *m, const struct sealed *f, const struct krbrelay_moment *at, size_t room,
+                       const struct krbrelay_taken *taken, const uint8_t *data)
+{
+    enum krbrelay_answer expected = of_taking(m, f, at, room);
+    HOLDS(taken->answer == expected);
+    HOLDS(taken->number == (expected == KRBRELAY_OK || expected == KRBRELAY_BADORDER ? f->by.number : 777));
+    if (expected != KRBRELAY_OK) {
+        HOLDS(taken->kind == 99 && taken->size == 777);
+        return 0;
+    }
+    accepted(m, f, taken->kind, data, taken->size);
+    return taken->size;
+}
+
+/* Several frames in one call, of which the receiver may accept some. */
+static void take_several(size_t i)
+{
+    static uint8_t data[TOGETHER * LONGEST];
+    struct held *m = &receivers[i].m;
+    const struct sealed *from[TOGETHER];
+    struct krbrelay_frame all[TOGETHER];
+    struct krbrelay_taken taken[KRBRELAY_MOST_FRAMES];
+    struct krbrelay_moment at = some_moment();
+    size_t count = draw(TOGETHER + 1), room = one_in(2) ? sizeof data : draw(sizeof data / 4), used = 0;
+    enum krbrelay_answer expected = FIRST_OF(UNLESS(m->life != NOTHING, KRBRELAY_EMPTY), of_moment(&at));
+    for (size_t k = 0; k < count; k++) {
+        from[k] = fitting_frame(m, 1);
+        all[k] = (struct krbrelay_frame){ from[k]->frame, from[k]->size };
+        taken[k] = (struct krbrelay_taken){ 555, 99, 777, 777 };
+    }
+    answered(krbrelay_receiver_take_many(&receivers[i].h, all, count, &at, data, room, taken), expected,
+             "krbrelay_receiver_take_many");
+    for (size_t k = 0; k < count && expected != KRBRELAY_OK; k++)
+        HOLDS(taken[k].answer == 555 && taken[k].kind == 99 && taken[k].size == 777 && taken[k].number == 777);
+    for (size_t k = 0; k < count && expected == KRBRELAY_OK; k++)
+        used += is_taken(m, from[k], &at, room - used, &taken[k], data + used);
 }
 
 /* ---- peers: pairs of a client at 10.0.0.1 and a server at 10.0.0.255, and their last messages */
@@ -1005,7 +1058,8 @@ static void step(void)
     case 14: case 15: case 16: case 17: open_frame(i); break;
     case 18: if (one_in(6)) end_opener(i); break;
     case 19: make_receiver(i); break;
-    case 20: case 21: case 22: case 23: take(i); break;
+    case 20: case 21: case 22: take(i); break;
+    case 23: take_several(i); break;
     case 24: ask_receiver(i); break;
     case 25: window(); break;
     case 26: progress(); break;

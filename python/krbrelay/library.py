@@ -26,6 +26,8 @@ ADDRESS_LIMIT = 40
 """The most bytes of an address."""
 MOST_MESSAGES = 64
 """The most messages that are sealed in one call."""
+MOST_FRAMES = 64
+"""The most frames that are taken in one call."""
 # end of limits
 CONFOUNDER_SIZE = 16
 PEER_STATE_SIZE = 20
@@ -96,6 +98,16 @@ class UnsealedStruct(ctypes.Structure):
     """struct krbrelay_unsealed."""
     _fields_ = [("user_data", c_char_p), ("user_data_len", c_size_t), ("at", MomentStruct),
                 ("confounder", c_uint8 * CONFOUNDER_SIZE)]
+
+
+class FrameStruct(ctypes.Structure):
+    """struct krbrelay_frame."""
+    _fields_ = [("bytes", c_char_p), ("bytes_len", c_size_t)]
+
+
+class TakenStruct(ctypes.Structure):
+    """struct krbrelay_taken."""
+    _fields_ = [("answer", c_uint32), ("kind", c_uint32), ("size", c_size_t), ("number", c_uint64)]
 
 
 class WindowStruct(ctypes.Structure):
@@ -224,6 +236,9 @@ CALLS: Dict[str, Tuple[Any, List[Any]]] = {
     "krbrelay_receiver_take_numbered":
         (c_uint32, [_HANDLE, *_BYTES, _MOMENT, POINTER(c_uint32), *_ROOM, _SIZE,
                     POINTER(c_uint64)]),
+    "krbrelay_receiver_take_many":
+        (c_uint32, [_HANDLE, POINTER(FrameStruct), c_size_t, _MOMENT, *_ROOM,
+                    POINTER(TakenStruct)]),
     "krbrelay_receiver_state": (c_uint32, [_HANDLE, POINTER(c_uint64), POINTER(c_uint32)]),
     "krbrelay_receiver_free": (None, [_HANDLE]),
     "krbrelay_peer_new":

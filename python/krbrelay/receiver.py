@@ -1,11 +1,12 @@
 """Receiving: opening records, one sequence number after another."""
 from __future__ import annotations
 
-from ctypes import c_uint32, c_uint64
-from typing import NamedTuple, Optional
+from ctypes import c_uint8, c_uint32, c_uint64
+from typing import List, NamedTuple, Optional, Sequence, Union
 
-from krbrelay.errors import Code, Refusal
+from krbrelay.errors import Code, Refusal, exception_of
 from krbrelay.handle import Handle, Key
+from krbrelay.library import MOST_FRAMES, FrameStruct, TakenStruct
 from krbrelay.opener import expect_struct
 from krbrelay.values import (
     LAST_NUMBER, Address, Bytes, Mode, Moment, Record, bytes_of, moment_struct, ranged, record_of)
@@ -55,10 +56,34 @@ class Receiver(Handle):
             found = self._write("take_numbered", len(content), content, len(content),
                                 moment_struct(at), kind, after=(number,))
         except Refusal as refusal:
-            if refusal.code is Code.BADORDER and number.value <= LAST_NUMBER:
-                refusal.number = number.value
+            _numbered(refusal, number.value)
             raise
         return record_of(kind.value, found)
+
+    def take_many(self, frames: Sequence[Bytes], at: Optional[Moment] = None
+                  ) -> List[Union[Record, Exception]]:
+        """What so many calls of `take` give one after another, 64 at most, at one moment: of each
+        message its record, or the exception that its call would raise, which is returned here. A
+        message that is refused changes nothing, and those after it are taken. Quicker, since the
+        library computes the codes of eight messages side by side.
+
+        Freed, ValueError and TypeError of the whole call, and then no message was taken.
+        """
+        contents = [bytes_of("the message", it) for it in frames]
+        if len(contents) > MOST_FRAMES:
+            raise ValueError(f"{len(contents)} messages: a call takes {MOST_FRAMES} at most")
+        given, taken = (FrameStruct * MOST_FRAMES)(), (TakenStruct * MOST_FRAMES)()
+        for place, content in zip(given, contents):
+            place.bytes, place.bytes_len = content, len(content)
+        room = sum(map(len, contents))
+        buffer = (c_uint8 * room)()
+        self._call("take_many", given, len(contents), moment_struct(at), buffer, room, taken)
+        view, found, begin = memoryview(buffer).cast("B"), [], 0
+        for it in taken[:len(contents)]:
+            end = begin if it.answer else begin + it.size
+            found.append(_outcome(it, view[begin:end].tobytes()))
+            begin = end
+        return found
 
     @property
     def state(self) -> State:
@@ -66,3 +91,17 @@ class Receiver(Handle):
         expected, closed = c_uint64(), c_uint32()
         self._call("state", expected, closed)
         return State(expected.value, bool(closed.value))
+
+
+def _numbered(exception: Exception, number: int) -> Exception:
+    """The exception of a message. If only its number is why it is refused, it has that number."""
+    if isinstance(exception, Refusal) and exception.code is Code.BADORDER and number <= LAST_NUMBER:
+        exception.number = number
+    return exception
+
+
+def _outcome(taken: TakenStruct, content: bytes) -> Union[Record, Exception]:
+    """The record of a message that was taken with others, or its exception."""
+    if taken.answer:
+        return _numbered(exception_of(taken.answer), taken.number)
+    return record_of(taken.kind, content)

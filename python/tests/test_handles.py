@@ -28,7 +28,8 @@ def calls_of(handle):
     if isinstance(handle, krbrelay.Peer):
         return [lambda: handle.open(FRAME, MICROS), lambda: handle.seal(b""),
                 lambda: handle.seal_many([b""]), lambda: handle.numbers, handle.export]
-    return [lambda: handle.take(FRAME, MICROS), lambda: handle.state]
+    return [lambda: handle.take(FRAME, MICROS), lambda: handle.take_many([FRAME], MICROS),
+            lambda: handle.state]
 
 
 class Lives(unittest.TestCase):

@@ -48,6 +48,9 @@ class Leaks(unittest.TestCase):
                 for place in range(count // 2):
                     record = records[place % 2]
                     assert receiver.take(sealer.seal_record(record, MICROS), MICROS) == record
+                for _ in range(count // 30):
+                    frames = [sealer.seal_record(records[0], MICROS) for _ in range(9)]
+                    assert receiver.take_many(frames, MICROS) == [records[0]] * 9
             self.assert_still(work)
 
     def test_peers(self):

@@ -140,6 +140,70 @@ class Taking(unittest.TestCase):
                 receiver.take(frame, MICROS)
 
 
+class Several(unittest.TestCase):
+    """Frames that are taken in one call."""
+
+    def test_records_of_the_independent_sender(self):
+        """Each number of frames, also those at which the library computes eight codes side by side."""
+        for key, mode in KINDS:
+            texts = [bytes(at % 251 for at in range(29 * it)) for it in range(63)]
+            sender = opener.Sender(session_of(key, mode), texts, [MICROS], batch=1)
+            frames_sent = [sender.sealed(record, place, bytes(16)) for place, record in enumerate(
+                [frames.record(group) for group in sender.groups()] + [b"C"])]
+            for count in (0, 1, 7, 8, 9, 40, 64):
+                with receiver_of(key, mode) as receiver:
+                    self.assertEqual(receiver.take_many(frames_sent[:count], MICROS),
+                                     ([Text(it) for it in texts] + [Closed()])[:count])
+                    self.assertEqual(receiver.state, State(7 + count, count == 64))
+
+    def test_drawn_wires(self):
+        """Each outcome is that of the independent receiver, which takes one frame after another."""
+        for place in range(100 if ALL else 20):
+            dice = random.Random(f"wire of several {place}")
+            key, mode = dice.choice(KINDS)
+            demands = dict(skew=3, require_receiver=dice.random() < 0.3,
+                           require_time=dice.random() < 0.7)
+            with receiver_of(key, mode, **demands) as receiver, sealer_of(key, mode) as sealer:
+                other = opener.Receiver(session_of(key, mode, **demands), [MICROS])
+                wire = [it for _ in range(12) for it in drawn_frames(dice, key, mode, sealer)]
+                for at in range(0, len(wire), 64):
+                    taken = receiver.take_many(wire[at:at + 64], MICROS)
+                    self.assertEqual([lines_of(int(it.code) if isinstance(it, krbrelay.Refusal) else it)
+                                      for it in taken],
+                                     [other.take(frame) for frame in wire[at:at + 64]])
+                    self.assertEqual(receiver.state, (other.expected, other.closed))
+
+    def test_each_has_the_number_of_its_call(self):
+        for key, mode in KINDS:
+            wire = [frame_of(key, mode, b"Dhi", number) for number in (9, 7, 7, 8, 2**32 - 1)] * 8
+            with receiver_of(key, mode) as one, receiver_of(key, mode) as other:
+                singly = []
+                for frame in wire:
+                    try:
+                        singly.append(one.take(frame, MICROS))
+                    except krbrelay.Refusal as refusal:
+                        singly.append((refusal.code, refusal.number))
+                self.assertEqual([it if isinstance(it, Text) else (it.code, it.number)
+                                  for it in other.take_many(wire, MICROS)], singly)
+                self.assertEqual(singly[:5], [(Code.BADORDER, 9), Text(b"hi"), (Code.BADORDER, 7),
+                                              Text(b"hi"), (Code.BADORDER, 2**32 - 1)])
+
+    def test_what_is_refused_of_the_whole_call(self):
+        frame = frame_of(KEYS[0], Mode.PRIV, b"Dhi")
+        receiver = receiver_of(KEYS[0], Mode.PRIV)
+        with self.assertRaisesRegex(ValueError, "65 messages: a call takes 64 at most"):
+            receiver.take_many([frame] * 65, MICROS)
+        with self.assertRaises(ValueError):
+            receiver.take_many([frame], -1)
+        with self.assertRaises(TypeError):
+            receiver.take_many([frame, "text"], MICROS)
+        self.assertEqual(receiver.state, State(7, False))
+        self.assertEqual(receiver.take_many([bytearray(frame), memoryview(frame)], MICROS)[0], Text(b"hi"))
+        receiver.free()
+        with self.assertRaises(krbrelay.Freed):
+            receiver.take_many([frame], MICROS)
+
+
 def drawn_frames(dice, key, mode, sealer):
     """Frames of a sealer at its numbers, with frames again, changed, early, and of no record."""
     records = [Text(b"t"), Text(b""), Batch((b"a", b"bb")), Batch((b"",) * 3), Closed()]

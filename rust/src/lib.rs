@@ -104,6 +104,8 @@ pub const FRAME_LIMIT: usize = 1_005_000;
 pub const ADDRESS_LIMIT: usize = 40;
 /// The most messages that are sealed in one call.
 pub const MOST_MESSAGES: usize = 64;
+/// The most frames that are taken in one call.
+pub const MOST_FRAMES: usize = 64;
 // end of limits
 /// The bytes of a peer's two numbers ([`Peer::export`]).
 pub const PEER_STATE_SIZE: usize = 20;

@@ -14,7 +14,9 @@ use core::ptr;
 use crate::error::Error;
 use crate::sealer::{ManyError, Message};
 use crate::values::{Confounder, Key};
-use crate::{frame_size, FRAME_LIMIT, HISTORY_SIZE, MOST_MESSAGES, PEER_STATE_SIZE, USER_DATA_LIMIT};
+use crate::{
+    frame_size, FRAME_LIMIT, HISTORY_SIZE, MOST_FRAMES, MOST_MESSAGES, PEER_STATE_SIZE, USER_DATA_LIMIT,
+};
 
 // ---- the structs of krbrelay.h
 
@@ -122,6 +124,21 @@ struct Unsealed {
     user_data_len: usize,
     at: Moment,
     confounder: Confounder,
+}
+
+#[repr(C)]
+struct Frame {
+    bytes: *const u8,
+    bytes_len: usize,
+}
+
+#[repr(C)]
+#[derive(Clone, Copy)]
+struct Taken {
+    answer: u32,
+    kind: u32,
+    size: usize,
+    number: u64,
 }
 
 #[repr(C)]
@@ -240,6 +257,15 @@ extern "C" {
         room: usize,
         size: *mut usize,
         number: *mut u64,
+    ) -> u32;
+    fn krbrelay_receiver_take_many(
+        handle: *mut Raw,
+        frames: *const Frame,
+        count: usize,
+        at: *const Moment,
+        bytes: *mut u8,
+        room: usize,
+        taken: *mut Taken,
     ) -> u32;
     fn krbrelay_receiver_state(handle: *mut Raw, expected: *mut u64, closed: *mut u32) -> u32;
     fn krbrelay_receiver_free(handle: *mut Raw);
@@ -607,12 +633,10 @@ pub(crate) fn wipe_opener(opener: &mut Handle) {
 
 // ---- receivers
 
-/// The kind of the record and its bytes, with the number that the message carries beside an error.
-pub(crate) fn take(
-    receiver: &mut Handle,
-    frame: &[u8],
-    at: &Moment,
-) -> Result<(u32, Vec<u8>), (Error, u64)> {
+/// The kind of a record and its bytes, or an error with the number that the message carries.
+pub(crate) type Taking = Result<(u32, Vec<u8>), (Error, u64)>;
+
+pub(crate) fn take(receiver: &mut Handle, frame: &[u8], at: &Moment) -> Taking {
     let (handle, from, len) = (receiver.raw.get(), frame.as_ptr(), frame.len());
     let (mut kind, mut number) = (0, u64::MAX);
     let (told, found) = (&mut kind, &mut number);
@@ -623,6 +647,40 @@ pub(crate) fn take(
     match bytes {
         Ok(bytes) => Ok((kind, bytes)),
         Err(error) => Err((error, number)),
+    }
+}
+
+/// The same of each of several messages.
+pub(crate) fn take_many(
+    receiver: &mut Handle,
+    frames: &[&[u8]],
+    at: &Moment,
+) -> Result<Vec<Taking>, Error> {
+    let given: Vec<Frame> =
+        frames.iter().map(|it| Frame { bytes: it.as_ptr(), bytes_len: it.len() }).collect();
+    let room = frames.iter().fold(0usize, |sum, it| sum.saturating_add(room_of_data(it)));
+    let none = Taken { answer: 0, kind: 0, size: 0, number: u64::MAX };
+    let (mut bytes, mut taken) = (Vec::<u8>::new(), [none; MOST_FRAMES]);
+    bytes.try_reserve_exact(room).map_err(|_| Error::Memory)?;
+    let (handle, from, to, told) =
+        (receiver.raw.get(), given.as_ptr(), bytes.as_mut_ptr(), taken.as_mut_ptr());
+    // SAFETY: the module's rule; the handle is a receiver's, and the messages are borrowed until the call ends.
+    checked(unsafe { krbrelay_receiver_take_many(handle, from, given.len(), at, to, room, told) })?;
+    let taken = taken.iter().take(frames.len());
+    let written = taken.clone().filter(|it| it.answer == 0).map(|it| it.size).sum();
+    // SAFETY: it wrote so many bytes.
+    unsafe { bytes.set_len(written) };
+    let mut rest = bytes.as_slice();
+    Ok(taken.map(|it| it.of(&mut rest)).collect())
+}
+
+impl Taken {
+    /// What was told of a message, whose record the bytes begin with if it was accepted.
+    fn of(&self, rest: &mut &[u8]) -> Taking {
+        checked(self.answer).map_err(|error| (error, self.number))?;
+        let (record, after) = rest.split_at(self.size.min(rest.len()));
+        *rest = after;
+        Ok((self.kind, record.to_vec()))
     }
 }
 

@@ -5,7 +5,7 @@ mod common;
 use common::{expect, frames, from, session, AES128, AES256, AT, DRAWN, FIRST, LAST, RECEIVER};
 use krbrelay::{
     message_header, Batch, Demand, Error, Key, ManyError, Message, Mode, Numbers, Opener, Peer,
-    Receiver, Record, Sealer, Session, MOST_MESSAGES,
+    Receiver, Record, Sealer, Session, MOST_FRAMES, MOST_MESSAGES,
 };
 
 type Row = (&'static str, Mode, Key<'static>, u32, Vec<Record>);
@@ -205,6 +205,70 @@ fn receivers_take_them() {
         assert_eq!(state.expected, u64::from(number) + records.len() as u64);
         assert_eq!(state.closed, records.last() == Some(&Record::Closed));
     }
+}
+
+#[test]
+fn receivers_take_them_in_one_call() {
+    let known = frames();
+    for (first, mode, key, number, records) in rows() {
+        let mut receiver = Receiver::new(key, &expect(mode), from(number)).unwrap();
+        let names = names(first, records.len());
+        let given: Vec<&[u8]> = names.iter().map(|name| known[name].as_slice()).collect();
+        let taken: Vec<Record> =
+            receiver.take_many_at(&given, AT).unwrap().into_iter().map(Result::unwrap).collect();
+        assert_eq!(taken, records, "{first}");
+        assert_eq!(receiver.state().expected, u64::from(number) + records.len() as u64);
+    }
+}
+
+/// Frames of one session, of which some come again or too early, are cut off or changed.
+fn frames_on_the_way(key: Key<'_>, mode: Mode) -> Vec<Vec<u8>> {
+    let mut by = sealer(key, mode, FIRST);
+    let mut sent: Vec<Vec<u8>> = (0..MOST_FRAMES)
+        .map(|it| by.seal_record_at(&Record::Text(vec![it as u8; 41 * it]), AT, &[1; 16]).unwrap())
+        .collect();
+    let again = sent[2].clone();
+    sent.insert(4, again);
+    let mut cut = sent[6].clone();
+    cut.truncate(20);
+    sent.insert(6, cut);
+    let mut changed = sent[11].clone();
+    let last = changed.len() - 1;
+    changed[last] ^= 1;
+    sent.insert(11, changed);
+    sent.swap(20, 21);
+    sent.insert(0, Vec::new());
+    sent.truncate(MOST_FRAMES);
+    sent
+}
+
+/// What a call takes is what as many calls take, of which the rows above compare with another sealer's frames.
+#[test]
+fn frames_of_one_call_are_taken_as_by_single_calls() {
+    for (mode, key) in KINDS {
+        let sent = frames_on_the_way(key, mode);
+        let given: Vec<&[u8]> = sent.iter().map(Vec::as_slice).collect();
+        for count in COUNTS {
+            let mut single = Receiver::new(key, &expect(mode), from(FIRST)).unwrap();
+            let mut many = Receiver::new(key, &expect(mode), from(FIRST)).unwrap();
+            let wanted: Vec<Result<Record, Error>> =
+                given[..count].iter().map(|it| single.take_at(it, AT)).collect();
+            assert_eq!(many.take_many_at(&given[..count], AT).unwrap(), wanted);
+            assert_eq!(many.state(), single.state());
+        }
+    }
+}
+
+#[test]
+fn what_a_call_of_several_refuses_as_a_whole() {
+    let mut receiver = Receiver::new(AES128, &expect(Mode::Safe), from(FIRST)).unwrap();
+    let known = frames();
+    let given = vec![known["safe 17"].as_slice(); MOST_FRAMES + 1];
+    assert_eq!(receiver.take_many_at(&given, AT), Err(Error::Argument));
+    assert_eq!(receiver.state(), from(FIRST));
+    let taken = receiver.take_many_at(&given[1..], AT).unwrap();
+    assert!(taken[0].is_ok());
+    assert!(taken[1..].iter().all(|it| *it == Err(Error::BadOrder { number: Some(FIRST) })));
 }
 
 #[test]

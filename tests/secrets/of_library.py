@@ -15,8 +15,9 @@ KINDS = [(name, etype, mode) for etype in (17, 18) for name, mode in (("safe", 2
 CONTROL = 3             # the places of the part `control`: one of each secret
 # Those of `refuse`, of each mode: the branch on the outcome of the comparison. Of KRB-SAFE one where a
 # call demands nothing first and one where it demands the body; and the use of the outcome in each of the
-# seven calls, whose answer it is.
-OUTCOMES = {"safe": 9, "priv": 1}
+# eight calls, whose answer it is. Of KRB-PRIV the archive has that branch twice: where the code that a frame
+# ought to have is given, and where it is computed.
+OUTCOMES, OUTCOMES_V3 = {"safe": 10, "priv": 2}, {"safe": 10, "priv": 1}
 # What holds decrypted bytes before their code is compared, and the calls of the library.
 HOLDERS = ("krb_seal.opening.", "krbrelay_")
 # What uses the outcome, and then reads the record in a text whose code was right.
@@ -115,10 +116,10 @@ class Calls:
                         f" {len(wrong)} depend on a secret elsewhere, and {len(places - before)} read"
                         " a text whose code was right", memcheck.by_function(wrong))
 
-    def watch(self):
+    def watch(self, outcomes):
         self.has("control", CONTROL)
         self.has("seal", 0)
-        self.opening(self.has("refuse", OUTCOMES[self.name]))
+        self.opening(self.has("refuse", outcomes[self.name]))
 
 
 @dataclasses.dataclass(frozen=True)
@@ -133,6 +134,8 @@ class Plant:
 
 PLANTS = (
     Plant("large.c", "krbrelay_receiver_new", "krbrelay_receiver_take", "refuse", "frames of over 512 bytes"),
+    Plant("take_many.c", "krbrelay_receiver_new", "krbrelay_receiver_take_many", "refuse",
+          "many frames in one call"),
     Plant("many.c", "krbrelay_sealer_new", "krbrelay_sealer_seal_many", "seal", "many messages in one call"),
     Plant("many_by_peer.c", "krbrelay_peer_resume", "krbrelay_peer_seal_many", "seal",
           "many messages of a peer in one call"),
@@ -158,18 +161,18 @@ class Linked:
 
 def watch(folder, prefix):
     count = report.Count()
-    watch_one(folder, Linked(prefix, archive_of(prefix)), count)
+    watch_one(folder, Linked(prefix, archive_of(prefix)), OUTCOMES, count)
     if has_v3():
         print("for x86-64-v3:")
-        watch_one(folder, Linked(prefix, object_of_v3(prefix)), count)
+        watch_one(folder, Linked(prefix, object_of_v3(prefix)), OUTCOMES_V3, count)
     else:
         print("skipped: the object for x86-64-v3, which this processor or its loader doesn't have")
     return count
 
 
-def watch_one(folder, linked, count):
+def watch_one(folder, linked, outcomes, count):
     program = build(folder, linked.prefix, linked.words)
     for kind in KINDS:
-        Calls(folder, program, count, kind).watch()
+        Calls(folder, program, count, kind).watch(outcomes)
     for plant in PLANTS:
         planted(folder, linked, plant, count)

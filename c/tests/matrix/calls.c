@@ -150,6 +150,18 @@ static uint32_t receiver_take_numbered(void)
                                            out, given.room, &told.size, &told.number);
 }
 
+/* One frame, whose answer counts where the call has none of its own. */
+static uint32_t receiver_take_many(void)
+{
+    struct krbrelay_taken taken[KRBRELAY_MOST_FRAMES] = { { 0, told.kind, told.size, told.number } };
+    struct krbrelay_frame one = { frame, given.frame_len };
+    uint32_t answer = krbrelay_receiver_take_many(&handles.receiver, &one, 1, &given.at, out, given.room, taken);
+    told.kind = taken[0].kind;
+    told.size = taken[0].size;
+    told.number = taken[0].number;
+    return answer == KRBRELAY_OK ? taken[0].answer : answer;
+}
+
 static uint32_t peer_open(void)
 {
     return krbrelay_peer_open(&handles.peer, frame, given.frame_len, &given.at, out, given.room, &told.size,
@@ -388,6 +400,7 @@ struct call calls[] = {
     ROW(opener_open, OPENS, OPENER, OF_DATA, 0, 0, 0),
     ROW(receiver_take, OPENS, RECEIVER, OF_RECORDS, 0, 0, 0),
     ROW(receiver_take_numbered, OPENS, RECEIVER, OF_RECORDS, 0, 0, 0),
+    ROW(receiver_take_many, OPENS, RECEIVER, OF_RECORDS, 0, 0, 0),
     ROW(peer_open, OPENS, PEER, OF_DATA, 0, 0, 0),
     ROW(message_header, OPENS, NO_HANDLE, OF_DATA, 0, 0, 0),
     NONE(sealer_frame_size, SEALER), NONE(sealer_next, SEALER), NONE(sealer_set_mode, SEALER),

@@ -70,11 +70,12 @@ void try_least(uint32_t mode, int32_t etype)
     static const char *const record[] = { "sealer_seal_record", "receiver_new", "receiver_take", "opener_open",
                                           "opener_unseal_in_place", NULL };
     static const char *const peer[] = { "peer_new", "peer_seal", "peer_open", NULL };
-    static const char *const resumed[] = { "peer_resume", "receiver_take_numbered", NULL };
+    static const char *const resumed[] = { "peer_resume", "receiver_take_numbered", "receiver_take_many",
+                                           NULL };
     at_least(8, mode, etype, session);
     at_least(8, mode, etype, record);
     at_least(5, mode, etype, peer);
-    at_least(2, mode, etype, resumed);
+    at_least(3, mode, etype, resumed);
     try_batch(mode, etype);
     try_many("sealer_seal_many", mode, etype);
     try_many("peer_seal_many", mode, etype);

@@ -87,6 +87,11 @@ static void header_is_right(void)
     is_so(memcmp(&told.header, &right, sizeof right) == 0, "the header is told");
 }
 
+static int tells_number(const struct call *call)
+{
+    return call == call_of("receiver_take_numbered") || call == call_of("receiver_take_many");
+}
+
 static void opened_is_right(const struct call *call)
 {
     if (call->uses == NO_HANDLE) {
@@ -97,7 +102,7 @@ static void opened_is_right(const struct call *call)
           "what was opened is what was sealed");
     if (call->of == OF_RECORDS)
         is_so(told.kind == given.gives_kind, "the kind of record is told");
-    if (call == call_of("receiver_take_numbered"))
+    if (tells_number(call))
         is_so(told.number == NUMBER, "the number is told");
     if (call == call_of("opener_open") || call == call_of("peer_open"))
         carried_is_right(&told.carried);
@@ -135,7 +140,7 @@ static void succeeded(const struct call *call, uint64_t before)
 
 static void number_at_badorder(const struct call *call)
 {
-    if (call == call_of("receiver_take_numbered"))
+    if (tells_number(call))
         is_so(told.number == NUMBER, "at BADORDER the number is told");
     if (call == call_of("peer_open"))
         carried_is_right(&told.carried);

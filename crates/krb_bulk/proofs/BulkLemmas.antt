@@ -33,7 +33,8 @@ use Rattle.krb_bulk.specs.declared.private.Plain.{Plain}
 use Rattle.krb_bulk.specs.declared.safe.Unsummed.{Unsummed}
 use Rattle.krb_bulk.specs.declared.four.Four.{Four}
 use Rattle.krb_bulk.specs.Four.{AreEach, AreFrom}
-use Rattle.krb_bulk.specs.BulkInside.{body_at, Enciphers, HasSum, IsCovered, IsLong, IsPlain, IsPlainAt, IsUnsummed, SealsAt}
+use Rattle.krb_seal.specs.Checksum.{IsCovered}
+use Rattle.krb_bulk.specs.BulkInside.{body_at, Enciphers, HasSum, IsLong, IsPlain, IsPlainAt, IsUnsummed, SealsAt}
 
 -- what holds of the message at an index holds of the message with it
 pub of_index : {A : Type 0} (P : A → Type 0) (xs : List A) (i : ℕ) (d : A) → P (get_or xs i d) → (x : A) → slice_get xs i ≡ Some x → P x

@@ -6,8 +6,7 @@ use Rattle.krb_aes.specs.Stealing.{cts}
 use Rattle.krb_base.specs.Bytes.{AreBytes}
 use Rattle.krb_der.specs.declared.body.Body.{Body}
 use Rattle.krb_der.specs.Body.{IsBody, part}
-use Rattle.krb_der.specs.declared.safe.SafeMsg.{SafeMsg}
-use Rattle.krb_der.specs.Safe.{before_checksum, checksum_field}
+use Rattle.krb_der.specs.Safe.{checksum_field}
 use Rattle.krb_der.specs.Message.{IsSafeDraft, Precedes, safe_input}
 use Rattle.krb_etype.specs.declared.etype.Etype.{Etype}
 use Rattle.krb_etype.specs.declared.private_keys.End.TheVariants.{Sealer}
@@ -104,10 +103,6 @@ pub record IsUnsummed (etype : Etype) (conf : List ℕ) (b : Body) (unsummed : U
   pub confounder : length conf ≡ confounder_size
   pub draft : IsSafeDraft (unsigned etype b) (checksum_number etype) 12 unsummed.draft
   pub input : unsummed.input.items ≡ safe_input (unsigned etype b)
-
--- The bytes are those under the checksum of each message that has these fields before its checksum.
-abbrev pub IsCovered : List ℕ → List ℕ → Type 0
-IsCovered fields bytes = (m : SafeMsg) → before_checksum m ≡ fields → bytes ≡ safe_input m
 
 -- The bytes are this KRB-SAFE with this checksum.
 abbrev pub HasSum : Etype → Unsummed → List ℕ → List ℕ → Type 0

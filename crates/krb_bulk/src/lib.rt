@@ -13,6 +13,7 @@ mod private;
 mod safe;
 mod unsealed;
 
+pub use four::{Four, eight_codes};
 pub use many::{check_size, frames_of, seal_many};
 pub use many_error::ManyError;
 pub use unsealed::Unsealed;

@@ -1,20 +1,19 @@
 //! KRB-SAFE, eight at a time.
 
 ghost use Rattle.std.specs.Prelude.{◌≡◌, ◌≤◌, ◌+◌, ◌<◌, ℕ, List, length, IfOk};
-ghost use Rattle.krb_base.specs.Limits.{frame_limit};
 ghost use Rattle.krb_etype.specs.Keys.{checksum_key};
 ghost use Rattle.krb_keys.specs.BatchMac.{HoldsBatchKey};
 ghost use Rattle.krb_seal.specs.declared.session.Mode.TheVariants.{Safe};
 ghost use Rattle.krb_bulk.specs.Four.{AreFrom};
-ghost use Rattle.krb_bulk.specs.BulkInside.{AreSums, HasSum, IsCovered, IsReady, IsUnsummedAt, SealsAt};
+ghost use Rattle.krb_bulk.specs.BulkInside.{AreSums, HasSum, IsReady, IsUnsummedAt, SealsAt};
 
 use crate::bulk::Bulk;
 use crate::four::{Four, eight_codes};
 use crate::unsealed::known_confounder;
-use krb_der::{SafeDraft, covering_of, draft_safe};
+use krb_der::{SafeDraft, draft_safe};
 use krb_etype::CODE_SIZE;
 use krb_keys::BatchMac;
-use krb_seal::{unsigned, within_limit};
+use krb_seal::{checksum_input, unsigned, within_limit};
 use std::alloc::{AllocError, Global};
 
 /// A KRB-SAFE that has no checksum yet, and the bytes under its checksum (RFC 4120 section 5.6.1).
@@ -22,22 +21,6 @@ use std::alloc::{AllocError, Global};
 pub struct Unsummed {
     draft: SafeDraft,
     input: Vec<u8>,
-}
-
-/// The bytes under the checksum of each message that has these fields before its checksum.
-fn covered(alloc: Global, fields: &[u8]) -> Result<Vec<u8>, AllocError>
-    requires { length fields.now ≤ frame_limit }
-    ensures { IfOk result (λ v. IsCovered fields.now v.items) }
-{
-    let around = covering_of(fields.len());
-    let (message, sequence) = (around.message.as_slice(), around.sequence.as_slice());
-    let around_size = message.len() + sequence.len() + around.last.len();
-    let mut bytes = Vec::with_capacity(alloc, around_size + fields.len())?;
-    bytes.extend_from_slice(message)?;
-    bytes.extend_from_slice(sequence)?;
-    bytes.extend_from_slice(fields)?;
-    bytes.extend_from_slice(&around.last)?;
-    Ok(bytes)
 }
 
 /// The checksums of eight messages, side by side.
@@ -74,7 +57,7 @@ impl Bulk<'_, '_, '_> {
         known_confounder(&self.messages[index].confounder);
         let message = unsigned(self.parts.etype, self.body(index));
         let draft = within_limit(draft_safe(alloc, &message, CODE_SIZE))?;
-        let input = covered(alloc, draft.fields())?;
+        let input = checksum_input(alloc, draft.fields())?;
         Ok(Unsummed { draft, input })
     }
 

@@ -4,4 +4,5 @@ pub mod Handles
 pub mod Queue
 pub mod Peers
 pub mod Many
+pub mod Taking
 pub mod Fields

@@ -31,4 +31,5 @@ mod sealer_calls;
 mod sealer_handle;
 mod sending_calls;
 mod shard_calls;
+mod taking_calls;
 mod window_calls;

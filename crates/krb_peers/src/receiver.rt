@@ -1,8 +1,10 @@
 //! The receiver of a lane.
 
 ghost use Rattle.std.specs.Prelude.{◌≡◌, ◌⊎◌, ◌+◌, ◌<◌, ◌≤◌, length, replicate, IsFalse, IsTrue, IfErr, IfOk, Ok, Err, OnOk, OnErr};
+ghost use Rattle.std.specs.Option.{ForSome};
 ghost use Rattle.krb_base.specs.Limits.{last_number};
 ghost use Rattle.krb_record.specs.Record.{is_close, kind_of};
+ghost use Rattle.krb_seal.specs.Covered.{IsCodedFrame};
 ghost use Rattle.krb_seal.specs.Number.{TellsNoOther, TellsNumber};
 ghost use Rattle.krb_seal.specs.Opens.{Opens};
 ghost use Rattle.krb_seal.specs.Unseals.{untold};
@@ -19,7 +21,7 @@ use crate::order::Order;
 use krb_base::{Bytes, Secret};
 use krb_der::Moment;
 use krb_record::{RecordError, RecordKind, into_record};
-use krb_seal::{Opener, Refusal, Unopened};
+use krb_seal::{Coded, Opener, Refusal, Unopened};
 use std::alloc::{AllocError, Global};
 use std::marker::Model;
 
@@ -111,6 +113,13 @@ impl Receiver {
         self.order.closed()
     }
 
+    /// What opens its frames. It stays as it is while frames are taken.
+    pub fn opener(&self) -> &Opener
+        ensures { result.now ≡ self.now.opener }
+    {
+        &self.opener
+    }
+
     /// Takes a frame at the timestamp `now`: what it carries, or the refusal of the first check
     /// that it fails.
     ///
@@ -146,7 +155,28 @@ impl Receiver {
         ensures memory { untold result ≡ Err Refusal.Memory → TakesMemory self.now now frame.now }
         ensures in_range { OnOk result (self.now.demand.expected ≤ last_number) }
     {
-        let bytes = Secret::from(self.unsealed(alloc, frame, now)?);
+        self.open_coded(alloc, frame, None, now)
+    }
+
+    /// Opens a frame as [`open`](Receiver::open) does, by a code that was computed before
+    /// ([`Opener::unseal_coded`]).
+    pub fn open_coded(
+        &self,
+        alloc: Global,
+        frame: &[u8],
+        coded: Option<Coded<'_>>,
+        now: Moment,
+    ) -> Result<Opened, Unopened>
+        requires coded { ForSome coded (IsCodedFrame self.now.opener frame.now) }
+        ensures opened { IfOk result (OpensRecord self.now now frame.now) }
+        ensures refused { IfErr result (λ unopened.
+            IsJudgement self.now now frame.now (Err unopened.refusal)) }
+        ensures number { IfErr result (TellsNumber self.now.opener now frame.now) }
+        ensures no_other { IfErr result TellsNoOther }
+        ensures memory { untold result ≡ Err Refusal.Memory → TakesMemory self.now now frame.now }
+        ensures in_range { OnOk result (self.now.demand.expected ≤ last_number) }
+    {
+        let bytes = Secret::from(self.unsealed(alloc, frame, coded, now)?);
         match RecordKind::of(bytes.as_slice()) {
             Some(kind) => Ok(Opened { kind, bytes }),
             None => Err(Unopened::from(Refusal::BadRecord)),
@@ -240,7 +270,7 @@ impl Receiver {
         ensures memory { result ≡ Err Refusal.Memory → TakesMemory self.now now frame.now }
         ensures in_range { OnOk result (self.now.demand.expected ≤ last_number) }
     {
-        let user_data = self.unsealed(alloc, frame, now)?;
+        let user_data = self.unsealed(alloc, frame, None, now)?;
         match into_record(alloc, user_data) {
             Ok(record) => Ok(Delivery::from(record)),
             Err(RecordError::BadRecord) => Err(Refusal::BadRecord),
@@ -248,8 +278,16 @@ impl Receiver {
         }
     }
 
-    /// The user data of a frame that carries the demanded number, unless a close was accepted.
-    fn unsealed(&self, alloc: Global, frame: &[u8], now: Moment) -> Result<Bytes, Unopened>
+    /// The user data of a frame that carries the demanded number, unless a close was accepted. Its code
+    /// may be given.
+    fn unsealed(
+        &self,
+        alloc: Global,
+        frame: &[u8],
+        coded: Option<Coded<'_>>,
+        now: Moment,
+    ) -> Result<Bytes, Unopened>
+        requires coded { ForSome coded (IsCodedFrame self.now.opener frame.now) }
         ensures open { OnOk result (IsFalse self.now.demand.closed) }
         ensures opened { IfOk result (λ user. Opens self.now.opener self.now.demand.expected now
             frame.now (Ok user)) }
@@ -264,7 +302,7 @@ impl Receiver {
             return Err(Unopened::from(Refusal::AfterClose));
         }
         self.opener
-            .unseal_telling(alloc, frame, self.order.expected(), now)
+            .unseal_coded(alloc, frame, coded, self.order.expected(), now)
     }
 
     /// Moves on after what [`judge`](Receiver::judge) delivered: the next number is demanded, and a

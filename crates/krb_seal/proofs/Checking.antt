@@ -13,8 +13,8 @@ use Rattle.krb_der.specs.declared.message.Message.{Message}
 use Rattle.krb_der.specs.declared.message.Message.TheVariants as messages
 use Rattle.krb_der.specs.Message.{Spells, SpellsPart}
 use Rattle.krb_seal.specs.declared.refusal.Refusal.{Refusal}
-use Rattle.krb_seal.specs.declared.refusal.Refusal.TheVariants.{FieldTooLong, Malformed, BadIntegrity, Memory}
-use Rattle.krb_etype.specs.Keys.{tag_of, IsEncryption}
+use Rattle.krb_seal.specs.declared.refusal.Refusal.TheVariants.{FieldTooLong, Malformed, Memory}
+use Rattle.krb_etype.specs.Keys.{IsEncryption}
 use Rattle.krb_seal.specs.Opens.{OpenerState, Passes, Read, Decrypt, OpensText, OpensMessage, Opens, priv_header, safe_checks}
 use Rattle.krb_seal.specs.OpensParts.{Outcome, Checks, OpensPart, text_checks, frame_checks}
 use Rattle.krb_seal.specs.Authentic.{Authenticity, AuthenticMessage, AuthenticText, GivesBody, authentic_checks}
@@ -110,21 +110,6 @@ pub all_passed_for : {A B : Type 0} (checks : Checks) (Then : Result B Refusal �
     → Checked checks made → made ≡ Ok x → Then outcome → Passes checks Then outcome
 all_passed_for checks Then made x outcome h is p = outcome_given checks Then outcome (h ∙ ap refusal_of is) p
 
--- a cipher was deciphered
-pub was_deciphered : {M B : Type 0} (key cipher text tag : List ℕ) (Then : List ℕ → List ℕ → Result B Refusal → Type 0) (outcome : Result B Refusal)
-    → IsEncryption key cipher text tag → M ⊎ Then text tag outcome → M ⊎ Decrypt key cipher Then outcome
-was_deciphered key cipher text tag Then outcome e (inl h) = inl h
-was_deciphered key cipher text tag Then outcome e (inr h) = inr (text, tag, e, h)
-
--- the code of a text was the right one
-pub text_opened : {M B : Type 0} (key text tag code : List ℕ) (equal : Bool) (Then : Result B Refusal → Type 0) (outcome : Result B Refusal)
-    → (IsTrue equal ↔ (tag ≡ code)) → equal ≡ true → code ≡ tag_of key text
-    → M ⊎ Then outcome → M ⊎ Passes (text_checks key text tag) Then outcome
-text_opened key text tag code equal Then outcome h holds is (inl p) = inl p
-text_opened key text tag code equal Then outcome h holds is (inr p) =
-    let same : bytes_eq tag (tag_of key text) ≡ true = sym (ap (bytes_eq tag) is) ∙ eq_is equal tag code h ∙ holds in
-    inr (outcome_given (text_checks key text tag) Then outcome (met_code tag (tag_of key text) BadIntegrity same) p)
-
 -- a message was read, and opened
 pub frame_passed : {M B : Type 0} (Then : Message → Result B Refusal → Type 0) (bytes : List ℕ) (m : Message) (outcome : Result B Refusal) → Spells m bytes
     → M ⊎ Then m outcome → M ⊎ Passes (frame_checks bytes) (Read Spells bytes Then) outcome
@@ -161,26 +146,37 @@ read_on : (bytes : List ℕ) (Then : Body → Outcome → Type 0) (made : Authen
 read_on bytes Then made outcome g (inl p) = inl (p.0, refusal_stays Then made Malformed outcome p.1 g)
 read_on bytes Then made outcome g (inr p) = inr (p.0, p.1, subst (λ (z : Authenticity). GoesOn z Then outcome) p.2 g)
 
+pub text_goes_on : (o : OpenerState) (number now : ℕ) (text tag : List ℕ) (made : Authenticity) (outcome : Outcome)
+    → AuthenticText o.key text tag made → GoesOn made (OpensPart o.expect number now) outcome → OpensText o number now text tag outcome
+text_goes_on o number now text tag made outcome p g =
+    let Then = OpensPart o.expect number now in
+    passes_on (text_checks o.key text tag) (Read SpellsPart (drop 16 text) GivesBody) (Read SpellsPart (drop 16 text) Then) Then made outcome g (read_on (drop 16 text) Then made outcome g) p
+
 pub priv_goes_on : (o : OpenerState) (number now : ℕ) (m : PrivMsg) (made : Authenticity) (outcome : Outcome)
     → AuthenticMessage o (messages.Priv m) made → GoesOn made (OpensPart o.expect number now) outcome → OpensMessage o number now (messages.Priv m) outcome
 priv_goes_on o number now m made outcome p g =
     let Then = OpensPart o.expect number now in
     passes_on (priv_header o.etype o.expect m) (Decrypt o.key m.cipher (AuthenticText o.key)) (Decrypt o.key m.cipher (OpensText o number now)) Then made outcome g
-    (λ d. (d.0, d.1, d.2, passes_on (text_checks o.key d.0 d.1) (Read SpellsPart (drop 16 d.0) GivesBody) (Read SpellsPart (drop 16 d.0) Then) Then made outcome g (read_on (drop 16 d.0) Then made outcome g) d.3)) p
+    (λ d. (d.0, d.1, d.2, text_goes_on o number now d.0 d.1 made outcome d.3 g)) p
 
-pub priv_refused : (o : OpenerState) (number now : ℕ) (m : PrivMsg) (made : Authenticity) (r : Refusal) (result : Outcome)
-    → OrMemory (AuthenticMessage o (messages.Priv m)) made → made ≡ Err r → IsErrAnd result (λ e. e ≡ r) → OrMemory (OpensMessage o number now (messages.Priv m)) result
-priv_refused o number now m made r (Ok v) h is p = absurd p
-priv_refused o number now m made r (Err x) (inl h) is p = inl (memory_of {A = Body} {B = List ℕ} x (ap Err p ∙ sym is ∙ h))
-priv_refused o number now m made r (Err x) (inr h) is p =
-    inr (priv_goes_on o number now m made (Err x) h (subst (λ (z : Authenticity). GoesOn z (OpensPart o.expect number now) (Err x)) (sym is) (ap Err p)))
+pub text_refused : (o : OpenerState) (number now : ℕ) (text tag : List ℕ) (made : Authenticity) (r : Refusal) (result : Outcome)
+    → OrMemory (AuthenticText o.key text tag) made → made ≡ Err r → IsErrAnd result (λ e. e ≡ r) → OrMemory (OpensText o number now text tag) result
+text_refused o number now text tag made r (Ok v) h is p = absurd p
+text_refused o number now text tag made r (Err x) (inl h) is p = inl (memory_of {A = Body} {B = List ℕ} x (ap Err p ∙ sym is ∙ h))
+text_refused o number now text tag made r (Err x) (inr h) is p =
+    inr (text_goes_on o number now text tag made (Err x) h (subst (λ (z : Authenticity). GoesOn z (OpensPart o.expect number now) (Err x)) (sym is) (ap Err p)))
 
-pub priv_opened : (o : OpenerState) (number now : ℕ) (m : PrivMsg) (made : Authenticity) (b : Body) (result : Outcome)
-    → OrMemory (AuthenticMessage o (messages.Priv m)) made → made ≡ Ok b → OrMemory (OpensPart o.expect number now b) result → OrMemory (OpensMessage o number now (messages.Priv m)) result
-priv_opened o number now m made b result (inl h) is p = absurd (let e : Ok b ≡ Err Memory = sym is ∙ h in cc)
-priv_opened o number now m made b result (inr h) is (inl p) = inl p
-priv_opened o number now m made b result (inr h) is (inr p) =
-    inr (priv_goes_on o number now m made result h (subst (λ (z : Authenticity). GoesOn z (OpensPart o.expect number now) result) (sym is) p))
+pub body_given : (o : OpenerState) (number now : ℕ) (text tag : List ℕ) (made : Authenticity) (b : Body) (result : Outcome)
+    → OrMemory (AuthenticText o.key text tag) made → made ≡ Ok b → OpensPart o.expect number now b result → OrMemory (OpensText o number now text tag) result
+body_given o number now text tag made b result (inl h) is p = absurd (let e : Ok b ≡ Err Memory = sym is ∙ h in cc)
+body_given o number now text tag made b result (inr h) is p =
+    inr (text_goes_on o number now text tag made result h (subst (λ (z : Authenticity). GoesOn z (OpensPart o.expect number now) result) (sym is) p))
+
+-- from the outcome of a text to that of its message
+pub authentic_text_of : (o : OpenerState) (m : PrivMsg) (text tag : List ℕ) (answer : Authenticity) → AreMet (priv_header o.etype o.expect m) → IsEncryption o.key m.cipher text tag
+    → AuthenticText o.key text tag answer → AuthenticMessage o (messages.Priv m) answer
+authentic_text_of o m text tag answer met enc h =
+    outcome_given (priv_header o.etype o.expect m) (Decrypt o.key m.cipher (AuthenticText o.key)) answer met (text, tag, enc, h)
 
 -- without the number, a refusal is the same
 pub refusal_alone : (Gives : Outcome → Type 0) (told : Result (List ℕ) Unopened) (u : Unopened) (result : Result (Vec ℕ) Refusal)

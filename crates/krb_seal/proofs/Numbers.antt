@@ -13,14 +13,16 @@ use Rattle.krb_seal.specs.declared.session.Expect.{Expect}
 use Rattle.krb_seal.specs.declared.refusal.Refusal.{Refusal}
 use Rattle.krb_seal.specs.declared.refusal.Refusal.TheVariants.{BadVersion, MsgType, InappCksum, BadAddr, Skew, BadOrder, Modified, Memory}
 use Rattle.krb_seal.specs.declared.unopened.Unopened.{Unopened}
-use Rattle.krb_seal.specs.Opens.{OpenerState, Read, safe_checks, body_checks, is_number}
+use Rattle.krb_etype.specs.Keys.{IsEncryption}
+use Rattle.krb_seal.specs.Opens.{OpenerState, Read, safe_checks, body_checks, is_number, priv_header}
+use Rattle.krb_seal.specs.Memory.{AreMet}
 use Rattle.krb_seal.specs.OpensParts.{OpensPart, frame_checks}
-use Rattle.krb_seal.specs.Authentic.{Authenticity, Authenticates, AuthenticMessage, GivesBody, authentic_checks}
+use Rattle.krb_seal.specs.Authentic.{Authenticity, Authenticates, AuthenticMessage, AuthenticText, GivesBody, authentic_checks}
 use Rattle.krb_seal.specs.Number.{OpensAt, IsItsNumber, TellsNumber}
-use Rattle.krb_seal.specs.NumberInside.{FitsButForNumber, IsNumberOf, IsAuthenticNumber, TellsOfBody, TellsOfMessage}
+use Rattle.krb_seal.specs.NumberInside.{FitsButForNumber, IsNumberOf, IsAuthenticNumber, TellsOfBody, TellsOfMessage, TellsOfText}
 use Rattle.krb_seal.specs.Unseals.{Checked, OrMemory, first_unmet, refusal_of}
 use Rattle.krb_seal.proofs.SealedFrames.{met_all, all_met}
-use Rattle.krb_seal.proofs.Checking.{all_passed_for, not_passed}
+use Rattle.krb_seal.proofs.Checking.{all_passed_for, authentic_text_of, not_passed}
 use Rattle.krb_seal.proofs.Outcomes.{one_authenticity}
 use Rattle.krb_seal.proofs.Authentics.{opens_the_authentic}
 
@@ -70,17 +72,29 @@ pub safe_tells : (o : OpenerState) (number now : ℕ) (m : SafeMsg) (made : Resu
 safe_tells o number now m made u h is told e =
     authentic_or_not o now m u.number (safe_fits o number now m made h (is ∙ ap Err e)) (told e)
 
-pub priv_tells : (o : OpenerState) (now : ℕ) (m : PrivMsg) (made : Authenticity) (b : Body) (u : Unopened) → OrMemory (AuthenticMessage o (messages.Priv m)) made → made ≡ Ok b
-    → TellsOfBody o.expect now b u → TellsOfMessage o now (messages.Priv m) u
-priv_tells o now m made b u (inl h) is told e = absurd (let f : Ok b ≡ Err Memory = sym is ∙ h in cc)
-priv_tells o now m made b u (inr h) is told e = (Ok b, subst (λ (z : Authenticity). AuthenticMessage o (messages.Priv m) z) is h, told e)
+pub text_tells : (o : OpenerState) (now : ℕ) (text tag : List ℕ) (made : Authenticity) (b : Body) (u : Unopened) → OrMemory (AuthenticText o.key text tag) made → made ≡ Ok b
+    → TellsOfBody o.expect now b u → TellsOfText o now text tag u
+text_tells o now text tag made b u (inl h) is told e = absurd (let f : Ok b ≡ Err Memory = sym is ∙ h in cc)
+text_tells o now text tag made b u (inr h) is told e = (Ok b, subst (λ (z : Authenticity). AuthenticText o.key text tag z) is h, told e)
 
-pub priv_untold : (o : OpenerState) (now : ℕ) (m : PrivMsg) (made : Authenticity) (r : Refusal) (u : Unopened) → OrMemory (AuthenticMessage o (messages.Priv m)) made → made ≡ Err r
-    → u ≡ record { refusal = r; number = None } → TellsOfMessage o now (messages.Priv m) u
-priv_untold o now m made r u (inl h) is same e =
+pub text_untold : (o : OpenerState) (now : ℕ) (text tag : List ℕ) (made : Authenticity) (r : Refusal) (u : Unopened) → OrMemory (AuthenticText o.key text tag) made → made ≡ Err r
+    → u ≡ record { refusal = r; number = None } → TellsOfText o now text tag u
+text_untold o now text tag made r u (inl h) is same e =
     absurd (let f : ◌≡◌ {A = Authenticity} (Err BadOrder) (Err Memory) = ap Err (sym e ∙ ap (λ (z : Unopened). z.refusal) same) ∙ sym is ∙ h in cc)
-priv_untold o now m made r u (inr h) is same e =
-    (Err r, subst (λ (z : Authenticity). AuthenticMessage o (messages.Priv m) z) is h, ap (λ (z : Unopened). z.number) same)
+text_untold o now text tag made r u (inr h) is same e =
+    (Err r, subst (λ (z : Authenticity). AuthenticText o.key text tag z) is h, ap (λ (z : Unopened). z.number) same)
+
+-- what is told of a text is told of its message
+pub message_tells : (o : OpenerState) (now : ℕ) (m : PrivMsg) (text tag : List ℕ) (u : Unopened) → AreMet (priv_header o.etype o.expect m) → IsEncryption o.key m.cipher text tag
+    → TellsOfText o now text tag u → TellsOfMessage o now (messages.Priv m) u
+message_tells o now m text tag u met enc told e =
+    let t = told e in
+    (t.0, authentic_text_of o m text tag t.0 met enc t.1, t.2)
+
+pub message_told : (o : OpenerState) (now : ℕ) (m : PrivMsg) (text tag : List ℕ) (result : Result (List ℕ) Unopened) → AreMet (priv_header o.etype o.expect m) → IsEncryption o.key m.cipher text tag
+    → IfErr result (TellsOfText o now text tag) → IfErr result (TellsOfMessage o now (messages.Priv m))
+message_told o now m text tag (Ok v) met enc h = h
+message_told o now m text tag (Err u) met enc h = message_tells o now m text tag u met enc h
 
 -- ---- of a frame
 

@@ -16,6 +16,7 @@ pub mod Checksum
 pub mod AesSealerInside
 pub mod Unseals
 pub mod Memory
+pub mod Covered
 pub mod Number
 pub mod NumberInside
 pub mod Laws

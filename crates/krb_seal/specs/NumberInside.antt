@@ -1,6 +1,6 @@
 -- Where the number of a frame that is refused by its number comes from: its authentic body, whose
 -- addresses and time fit.
-use Rattle.std.specs.Prelude.{◌≡◌, ◌⊎◌, ℕ, true, Option, None, Ok, Err}
+use Rattle.std.specs.Prelude.{◌≡◌, ◌⊎◌, ℕ, List, true, Option, None, Ok, Err}
 use Rattle.krb_der.specs.declared.body.Body.{Body}
 use Rattle.krb_der.specs.declared.message.Message.{Message}
 use Rattle.krb_der.specs.declared.safe.SafeMsg.{SafeMsg}
@@ -8,7 +8,7 @@ use Rattle.krb_seal.specs.declared.session.Expect.{Expect}
 use Rattle.krb_seal.specs.declared.refusal.Refusal.TheVariants.{BadOrder}
 use Rattle.krb_seal.specs.declared.unopened.Unopened.{Unopened}
 use Rattle.krb_seal.specs.Opens.{OpenerState, addresses_fit, is_current}
-use Rattle.krb_seal.specs.Authentic.{Authenticity, AuthenticMessage, authentic_checks}
+use Rattle.krb_seal.specs.Authentic.{Authenticity, AuthenticMessage, AuthenticText, authentic_checks}
 use Rattle.krb_seal.specs.Unseals.{first_unmet}
 
 -- The body passes its checks but for that of its number.
@@ -31,6 +31,12 @@ IsAuthenticNumber o m number =
 abbrev pub TellsOfBody : Expect → ℕ → Body → Unopened → Type 0
 TellsOfBody x now b unopened =
     unopened.refusal ≡ BadOrder → (unopened.number ≡ b.seq) × FitsButForNumber x now b
+
+-- Of a deciphered text.
+abbrev pub TellsOfText : OpenerState → ℕ → List ℕ → List ℕ → Unopened → Type 0
+TellsOfText o now text tag unopened = unopened.refusal ≡ BadOrder
+    → (answer : Authenticity) × AuthenticText o.key text tag answer
+    × IsNumberOf o.expect now answer unopened.number
 
 -- And of a message.
 abbrev pub TellsOfMessage : OpenerState → ℕ → Message → Unopened → Type 0

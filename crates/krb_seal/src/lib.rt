@@ -25,6 +25,7 @@ mod aes_sealer;
 mod boxed;
 mod checks;
 mod checksum;
+mod coded;
 mod exists;
 mod frame;
 mod laws;
@@ -38,6 +39,8 @@ mod session;
 mod unopened;
 
 pub use aes_sealer::{Aes128Sealer, Aes256Sealer, AesSealer, SealerParts, SessionSealer};
+pub use checksum::checksum_input;
+pub use coded::{Coded, Covered};
 pub use exists::exists_laws;
 pub use frame::{frame_of, unenciphered, unsigned};
 pub use krb_etype::{Etype, SessionKey};

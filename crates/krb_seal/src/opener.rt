@@ -1,11 +1,14 @@
 //! The opener of a session's frames.
 
-ghost use Rattle.std.specs.Prelude.{◌≡◌, ◌≤◌, pos, true, length, replicate, Err, IfErr, IfOk};
+ghost use Rattle.std.specs.Prelude.{◌≡◌, ◌≤◌, pos, true, length, replicate, Err, IfErr, IfOk, IfSome};
+ghost use Rattle.std.specs.Option.{ForSome};
 ghost use Rattle.krb_base.specs.Limits.{frame_limit};
 ghost use Rattle.krb_der.specs.Body.{InRange};
 ghost use Rattle.krb_etype.specs.declared.private_keys.End.TheVariants as ends;
 ghost use Rattle.krb_etype.specs.Etype.{number_of};
 ghost use Rattle.krb_etype.specs.HeldKeys.{fresh_keys};
+ghost use Rattle.krb_keys.specs.BatchMac.{HoldsBatchKey};
+ghost use Rattle.krb_seal.specs.Covered.{CoversFrame, IsCodedFrame, code_key_of};
 ghost use Rattle.krb_seal.specs.Mode.{purpose_of};
 ghost use Rattle.krb_seal.specs.Opens.{Opens, opener_of};
 ghost use Rattle.krb_seal.specs.Authentic.{Authenticates};
@@ -13,6 +16,7 @@ ghost use Rattle.krb_seal.specs.Number.{TellsNoOther, TellsNumber};
 ghost use Rattle.krb_seal.specs.Memory.{AsksForMemory, AsksWithoutDemands};
 ghost use Rattle.krb_seal.specs.Unseals.{OrMemory, seen, untold};
 
+use crate::coded::{Coded, Covered};
 use crate::opening::Opening;
 use crate::refusal::Refusal;
 use crate::session::Expect;
@@ -20,6 +24,7 @@ use crate::unopened::Unopened;
 use krb_base::Bytes;
 use krb_der::{Body, Moment};
 use krb_etype::{End, Etype, Keys, SessionKey};
+use krb_keys::BatchMac;
 use std::alloc::Global;
 use std::marker::Model;
 
@@ -128,6 +133,56 @@ impl Opener {
             return answer;
         }
         Opening::new(self.etype, &self.keys, &self.expect).unseal(alloc, frame, number, now)
+    }
+
+    /// What the integrity code of a frame is computed over: of a KRB-SAFE the bytes under its checksum, of
+    /// a KRB-PRIV its deciphered text. There is none if the frame is no message whose header passes its
+    /// checks, nor without memory, nor once the opener is wiped.
+    pub fn covered<'f>(&self, alloc: Global, frame: &'f [u8]) -> Option<Covered<'f>>
+        ensures { IfSome result (CoversFrame self.now frame.now) }
+    {
+        if self.keys.is_wiped() {
+            return None;
+        }
+        Opening::new(self.etype, &self.keys, &self.expect).covered(alloc, frame)
+    }
+
+    /// The key of its frames' codes, ready for eight at a time. There is none once the opener is wiped.
+    pub fn batch_mac(&self) -> Option<BatchMac>
+        ensures { IfSome result (λ mac. HoldsBatchKey mac (code_key_of self.now)) }
+    {
+        if self.keys.is_wiped() {
+            return None;
+        }
+        Some(self.keys.batch_mac())
+    }
+
+    /// As [`unseal_telling`](Opener::unseal_telling), by a code that was computed before. If none is given,
+    /// it is computed.
+    pub fn unseal_coded(
+        &self,
+        alloc: Global,
+        frame: &[u8],
+        coded: Option<Coded<'_>>,
+        number: u64,
+        now: Moment,
+    ) -> Result<Bytes, Unopened>
+        requires coded { ForSome coded (IsCodedFrame self.now frame.now) }
+        ensures answer { OrMemory (Opens self.now number now frame.now) (untold result) }
+        ensures number { IfErr result (TellsNumber self.now now frame.now) }
+        ensures no_other { IfErr result TellsNoOther }
+        ensures memory { untold result ≡ Err Refusal.Memory
+            → AsksForMemory self.now number now frame.now }
+    {
+        let Some(coded) = coded else {
+            return self.unseal_telling(alloc, frame, number, now);
+        };
+        if self.keys.is_wiped() {
+            return self.unseal_telling(alloc, frame, number, now);
+        }
+        Opening::new(self.etype, &self.keys, &self.expect).unseal_coded(
+            alloc, frame, coded, number, now,
+        )
     }
 
     /// The authenticated body of a frame: its user data, time, number and addresses, each absent if

@@ -51,6 +51,18 @@ static TEXTS: [(&[u8], &str, &str); MESSAGES] = [
     ),
 ];
 
+/// The digests of 64 bytes 5c and 20 letters `a`, and so on up to `h`, by OpenSSL.
+static DIGESTS_OF_20: [&str; MESSAGES] = [
+    "8a95f0e5b1d605ca9a069c2f4018d2fc35f97681",
+    "b5d3131ca7041de1bfba8345c879157a375e4a56",
+    "01f3267be5eb57558f921b030476c0f40c706bb9",
+    "cc2462187a084f97087a5d1e6c8c4a39e0e00f6e",
+    "3ae95db9447d03d39a613a7bff663193ff5c46bf",
+    "485db91859874aca23622764bb7a12037bf4f96e",
+    "33bfc312fe55034035c0d90d3e0ecc6e8e2aa747",
+    "14bb73b13bcc4d54b6140cceb40679d90e9ff0cb",
+];
+
 /// The texts, from the one at `first` on, around.
 fn texts_from(first: usize) -> [&'static [u8]; MESSAGES] {
     [
@@ -82,6 +94,21 @@ fn codes_and_digests_of_eight_texts(rt: HostRuntime) {
             assert_hex(&rt, &codes[j], code);
             assert_hex(&rt, &digests[j], digest);
         }
+    }
+}
+
+#[test]
+fn digests_of_20_bytes(rt: HostRuntime) {
+    let mut messages = [[0; 20]; MESSAGES];
+    for j in 0..8 {
+        messages[j] = [b'a' + j as u8; 20];
+    }
+    let mut prefix = Prefix::new(&[0x5c; 64]);
+    let digests = prefix.digests_of_20(&messages);
+    prefix.wipe();
+    prefix.spend();
+    for j in 0..8 {
+        assert_hex(&rt, &digests[j], DIGESTS_OF_20[j]);
     }
 }
 

@@ -1,9 +1,11 @@
 //! What takes the frames of one sender, one number after another.
 
 ghost use Rattle.std.specs.Prelude.{◌≡◌, ◌≤◌, length, drop, take, Err, IfErr, IfOk, OnErr, OnOk, Some};
+ghost use Rattle.std.specs.Option.{ForSome};
 ghost use Rattle.krb_base.specs.Limits.{last_number};
 ghost use Rattle.krb_peers.specs.Receiver.{IsJudgement, OpensRecord, TakesMemory};
 ghost use Rattle.krb_seal.specs.declared.refusal.Refusal.TheVariants.{BadOrder};
+ghost use Rattle.krb_seal.specs.Covered.{IsCodedFrame};
 ghost use Rattle.krb_seal.specs.Opens.{opener_of};
 ghost use Rattle.krb_structs.specs.declared.fault.Fault.TheVariants.{Refused};
 ghost use Rattle.krb_structs.specs.Fault.{answer_of, fault_code};
@@ -22,7 +24,7 @@ use crate::wipe::Wipe;
 use krb_base::LAST_NUMBER;
 use krb_der::Moment;
 use krb_peers::{Opened, Receiver};
-use krb_seal::{Opener, Refusal};
+use krb_seal::{Coded, Opener, Refusal};
 use std::alloc::Global;
 use std::marker::Model;
 
@@ -85,6 +87,13 @@ impl LaneReceiver {
         self.receiver.closed()
     }
 
+    /// What opens its frames. It stays as it is while frames are taken.
+    pub fn opener(&self) -> &Opener
+        ensures { result.now ≡ self.now.opener }
+    {
+        self.receiver.opener()
+    }
+
     /// Takes a frame at a moment, and writes the bytes of its record after the first: answers the
     /// record's kind and their number. Each fault leaves all as it was. The user data's block is
     /// overwritten before it is freed.
@@ -133,22 +142,53 @@ impl LaneReceiver {
         ensures untold { IfErr result (λ fault. ¬ (fault ≡ Refused BadOrder)
             → number.new ≡ number.old) }
     {
+        self.take_coded(alloc, frame, None, at, out, number)
+    }
+
+    /// Takes a frame as [`LaneReceiver::take_numbered`] does, by a code that was computed before
+    /// ([`Opener::unseal_coded`]).
+    pub fn take_coded(
+        &mut self,
+        alloc: Global,
+        frame: &[u8],
+        coded: Option<Coded<'_>>,
+        at: &KrbMoment,
+        out: &mut [u8],
+        number: &mut u64,
+    ) -> Result<(u32, usize), Fault>
+        requires coded { ForSome coded (IsCodedFrame self.old.opener frame.now) }
+        ensures accepted { IfOk result (λ taken. Accepts self.old (micros_of at.now) frame.now
+            taken.0 (take taken.1 out.new) self.new) }
+        ensures size { IfOk result (λ taken. taken.1 ≤ length out.new) }
+        ensures rest { IfOk result (λ taken. drop taken.1 out.new ≡ drop taken.1 out.old) }
+        ensures unchanged { OnErr result (self.new ≡ self.old) }
+        ensures kept { OnErr result (out.new ≡ out.old) }
+        ensures answer { TakeAnswer (Some self.old) at.now frame.now (length out.old)
+            (answer_of result) }
+        ensures number { OnOk result (number.new ≡ self.old.demand.expected) }
+        ensures misordered { answer_of result ≡ fault_code (Refused BadOrder)
+            → TellsItsNumber self.old.opener (micros_of at.now) frame.now number.new }
+        ensures untold { IfErr result (λ fault. ¬ (fault ≡ Refused BadOrder)
+            → number.new ≡ number.old) }
+    {
         let now = at.moment()?;
-        let opened = self.open(alloc, frame, now, number)?;
+        let opened = self.open(alloc, frame, coded, now, number)?;
         let size = put_within(out, &opened.bytes.as_slice()[1..])?;
         *number = self.receiver.expected();
         self.receiver.accept(opened.kind);
         Ok((opened.kind.number(), size))
     }
 
-    /// Opens a frame, and tells its number if that is all that it is refused by.
+    /// Opens a frame, whose code may be given, and tells its number if that is all that it is refused by.
     fn open(
         &self,
         alloc: Global,
         frame: &[u8],
+        coded: Option<Coded<'_>>,
         now: Moment,
         number: &mut u64,
     ) -> Result<Opened, Refusal>
+        requires coded { ForSome coded (IsCodedFrame self.now.opener frame.now) }
         ensures opened { IfOk result (OpensRecord self.now now frame.now) }
         ensures refused { IfErr result (λ refusal.
             IsJudgement self.now now frame.now (Err refusal)) }
@@ -158,7 +198,7 @@ impl LaneReceiver {
             → TellsItsNumber self.now.opener now frame.now number.new }
         ensures untold { ¬ (result ≡ Err Refusal.BadOrder) → number.new ≡ number.old }
     {
-        match self.receiver.open(alloc, frame, now) {
+        match self.receiver.open_coded(alloc, frame, coded, now) {
             Ok(opened) => Ok(opened),
             Err(unopened) => {
                 if matches!(unopened.refusal, Refusal::BadOrder) {

@@ -264,11 +264,32 @@ static void take_by_receiver(size_t len, enum krbrelay_answer wanted)
     krbrelay_receiver_free(&receiver);
 }
 
+/* The same frame many times in one call: eight side by side, and the last ones singly. */
+static void take_together(size_t len, enum krbrelay_answer wanted)
+{
+    enum { TIMES = KRBRELAY_MOST_FRAMES - 1 };
+    static struct krbrelay_taken taken[KRBRELAY_MOST_FRAMES];
+    const struct krbrelay_expect demands = expected();
+    struct krbrelay_receiver receiver = { 0 };
+    struct krbrelay_frame all[TIMES];
+    for (int i = 0; i < TIMES; i++)
+        all[i] = (struct krbrelay_frame){ frame, len };
+    has_answered(krbrelay_receiver_new(&receiver, etype, key, key_size(), &demands, NUMBER, 0),
+                 KRBRELAY_OK, "receiver_new");
+    has_answered(krbrelay_receiver_take_many(&receiver, all, TIMES, &now, opened, sizeof opened, taken),
+                 KRBRELAY_OK, "receiver_take_many");
+    for (int i = 0; i < TIMES; i++)
+        has_answered((enum krbrelay_answer)taken[i].answer,
+                     i > 0 && wanted == KRBRELAY_OK ? KRBRELAY_BADORDER : wanted, "one of several frames");
+    krbrelay_receiver_free(&receiver);
+}
+
 /* A frame that was just sealed, with its last byte as it is or changed by `mask`, by each call. */
 static void open_by_all(size_t len, uint8_t mask, enum krbrelay_answer wanted)
 {
     frame[len - 1] ^= mask;
     take_by_receiver(len, wanted);
+    take_together(len, wanted);
     open_by_peer(len, wanted);
     open_by_opener(len, wanted);
 }

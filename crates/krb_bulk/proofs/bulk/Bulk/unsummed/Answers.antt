@@ -16,8 +16,8 @@ within_limit-requires c =
     memory_safe c.unsigned-message.result _ c.draft_safe.result c.draft_safe.ensures
     (subst (λ (m : SafeMsg). IsSmall m.body) (sym c.unsigned-message.ensures) c.body.ensures.small)
 
-pub covered-requires : goal.covered-requires
-covered-requires c =
+pub checksum_input-requires : goal.checksum_input-requires
+checksum_input-requires c =
     let m = c.unsigned-message.result in
     let told : IsSafeDraft m m.cksum_type 12 c.in_ok-draft.draft = subst (λ (r : Result SafeDraft DerError). DraftsSafe m m.cksum_type 12 r) c.in_ok-draft.ensures c.draft_safe.ensures in
     subst (λ (s : List ℕ). length s ≤ frame_limit) (sym c.fields.ensures) (short_fields m m.cksum_type c.in_ok-draft.draft told)

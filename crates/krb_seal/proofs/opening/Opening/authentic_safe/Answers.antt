@@ -1,6 +1,5 @@
 use Rattle.std.proofs.Common.{Ok, ap, inr, ◌∙◌}
 use Rattle.krb_seal.specs.Authentic.{GivesBody, authentic_checks}
-use Rattle.krb_seal.specs.Unseals.{refusal_of}
 use Rattle.krb_seal.proofs.Checking.{all_passed_for, authentic_others, not_passed, refused_otherwise}
 use Rattle.krb_seal.proofs.opening.Opening.authentic_safe.Goals as goal
 

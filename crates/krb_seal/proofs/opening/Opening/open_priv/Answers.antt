@@ -1,12 +1,11 @@
-use Rattle.std.proofs.Common.{Err, inr, ap}
-use Rattle.krb_seal.specs.Unseals.{untold}
-use Rattle.krb_seal.proofs.Checking.{priv_refused, priv_opened}
+use Rattle.std.proofs.Common.{◌≡◌, inr, subst}
+use Rattle.krb_seal.specs.Opens.{OpenerState, priv_header}
+use Rattle.krb_seal.specs.Unseals.{first_unmet, refusal_of}
+use Rattle.krb_seal.proofs.Checking.{not_passed_untold}
 use Rattle.krb_seal.proofs.opening.Opening.open_priv.Goals as goal
 
-pub returns-in-Ok-clause-answer : goal.returns-in-Ok-clause-answer
-returns-in-Ok-clause-answer c =
-    priv_opened c.args.self.now c.args.number c.args.now c.args.m.now c.authentic_priv.result c.in-Ok.body (untold c.open_body.result) c.authentic_priv.ensures.answer c.in-Ok.is (inr c.open_body.ensures.answer)
-
-pub returns-in-Err-clause-answer : goal.returns-in-Err-clause-answer
-returns-in-Err-clause-answer c =
-    priv_refused c.args.self.now c.args.number c.args.now c.args.m.now c.authentic_priv.result c.in-Err.refusal (Err c.from.result.refusal) c.authentic_priv.ensures.answer c.in-Err.is (ap (λ z. z.refusal) c.from.ensures)
+pub returns-in_err-check_priv_header-clause-answer : goal.returns-in_err-check_priv_header-clause-answer
+returns-in_err-check_priv_header-clause-answer c =
+    let o = c.args.self.now in
+    let h = subst (λ (z : OpenerState). first_unmet (priv_header z.etype z.expect c.args.m.now) ≡ refusal_of c.check_priv_header.result) c.self.view_is c.check_priv_header.ensures in
+    inr (not_passed_untold (priv_header o.etype o.expect c.args.m.now) _ c.check_priv_header.result _ c.from_residual.result h c.in_err-check_priv_header.was c.from_residual.ensures.1)

@@ -13,7 +13,7 @@ use Rattle.krb_structs.specs.Number.{TellsItsNumber}
 use Rattle.krb_structs.proofs.Refusals.{is_order}
 use Rattle.krb_structs.proofs.Answering.{answer_is, timed}
 use Rattle.krb_structs.proofs.ReceiverLemmas.{accepts_of, take_answer, take_refused}
-use Rattle.krb_structs.proofs.lane_receiver.LaneReceiver.take_numbered.Goals as goal
+use Rattle.krb_structs.proofs.lane_receiver.LaneReceiver.take_coded.Goals as goal
 
 pub returns-in_err-opened-clause-answer : goal.returns-in_err-opened-clause-answer
 returns-in_err-opened-clause-answer c =

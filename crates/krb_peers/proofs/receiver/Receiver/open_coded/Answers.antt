@@ -3,7 +3,7 @@ use Rattle.krb_record.specs.Record.{SpellsRecord, kind_of}
 use Rattle.krb_record.specs.declared.record.Record.{Record}
 use Rattle.krb_seal.specs.Opens.{Opens}
 use Rattle.krb_peers.proofs.ReceiverLemmas.{opens_record}
-use Rattle.krb_peers.proofs.receiver.Receiver.open.Goals as goal
+use Rattle.krb_peers.proofs.receiver.Receiver.open_coded.Goals as goal
 
 pub returns-in-Some-clause-opened : goal.returns-in-Some-clause-opened
 returns-in-Some-clause-opened c =
