@@ -8,8 +8,8 @@
 #include <string.h>
 
 #define COLUMNS "opened.name, opened.stream, opened.before, opened.client, opened.etype," \
-                " opened.ends, opened.kvno, opened.wrapping, opened.key, opened.history"
-enum { NAME, STREAM, BEFORE, CLIENT, ETYPE, ENDS, KVNO, WRAPPING, KEY, HISTORY };
+                " opened.ends, opened.kvno, opened.wrapping, opened.key, opened.history, opened.shard"
+enum { NAME, STREAM, BEFORE, CLIENT, ETYPE, ENDS, KVNO, WRAPPING, KEY, HISTORY, SHARD };
 enum { TOGETHER = 64 }; /* rows that are wrapped anew at once */
 
 /* What is wrapped with the key. */
@@ -33,7 +33,7 @@ struct reading {
 static int read_columns(struct reading *r, const char *const *row)
 {
     struct opened *it = &r->it;
-    uint64_t etype, kvno, wrapping;
+    uint64_t etype, kvno, wrapping, shard;
     int is_fine = copy_text(it->name, sizeof it->name, row[NAME])
                   && copy_text(it->stream, sizeof it->stream, row[STREAM])
                   && copy_text(it->before, sizeof it->before, row[BEFORE])
@@ -42,6 +42,7 @@ static int read_columns(struct reading *r, const char *const *row)
                   && read_number(row[ENDS], 0, UINT32_MAX, &it->ends)
                   && read_number(row[KVNO], 0, UINT32_MAX, &kvno)
                   && read_number(row[WRAPPING], 0, INT32_MAX, &wrapping)
+                  && read_number(row[SHARD], 0, CARRIER_SHARDS - 1, &shard)
                   && read_hex(row[KEY], r->wrapped.bytes, sizeof r->wrapped.bytes, &r->wrapped.len);
     if (!is_fine) {
         log_fact(LEVEL_ERROR, "row_malformed", field_text("session", row[NAME]),
@@ -49,6 +50,7 @@ static int read_columns(struct reading *r, const char *const *row)
         return 0;
     }
     it->etype = (int32_t)etype;
+    it->shard = (unsigned)shard;
     history_read(&it->closed, row[HISTORY]);
     r->wrapped.kvno = (uint32_t)kvno;
     r->wrapped.etype = (int32_t)wrapping;
@@ -81,47 +83,49 @@ int kept_find(struct store *store, struct kerberos *kerberos, const char *name, 
     return store->ask(store, "SELECT " COLUMNS " FROM opened WHERE name = $1", &value, 1, read_row, &r);
 }
 
-/* A session that may be the one that is looked for. */
-struct rival { const struct opened *of; int is_other; };
+/* A session that begins, and what a row of the store makes of that. */
+struct judged { const struct opened *of; enum opening_answer answer; };
 
 static int compare_row(void *given, const char *const *row)
 {
-    struct rival *rival = given;
-    const struct opened *of = rival->of;
-    rival->is_other |= strcmp(row[0], of->name) != 0 || strcmp(row[1], of->client) != 0
-                       || strcmp(row[2], of->stream) != 0 || strcmp(row[3], of->before) != 0;
+    struct judged *judged = given;
+    const struct opened *of = judged->of;
+    if (strcmp(row[0], of->name) != 0 || strcmp(row[1], of->client) != 0
+        || strcmp(row[2], of->stream) != 0 || strcmp(row[3], of->before) != 0)
+        judged->answer = OPENING_FORKED;
+    else if (!of->says_shard && strtoul(row[4], NULL, 10) != of->shard && judged->answer == OPENING_OK)
+        judged->answer = OPENING_ELSEWHERE;
     return 0;
 }
 
-int kept_is_forked(struct store *store, const struct opened *it)
+enum opening_answer kept_judge(struct store *store, const struct opened *it)
 {
     const struct value values[] = { text_value(it->client), text_value(it->stream), text_value(it->before),
                                     text_value(it->name) };
-    struct rival rival = { it, 0 };
-    int answer = store->ask(store, "SELECT name, client, stream, before FROM opened WHERE"
+    struct judged judged = { it, OPENING_OK };
+    int answer = store->ask(store, "SELECT name, client, stream, before, shard FROM opened WHERE"
                                   " (client = $1 AND stream = $2 AND before = $3) OR name = $4",
-                           values, 4, compare_row, &rival);
-    return answer == 0 ? rival.is_other : -1;
+                           values, 4, compare_row, &judged);
+    return answer == 0 ? judged.answer : OPENING_FAULT;
 }
 
 /* ---- Rows that are written */
 
-static int add_row(struct store *store, unsigned shard, const struct opened *it,
-                   const struct wrapped *wrapped)
+static int add_row(struct store *store, const struct opened *it, const struct wrapped *wrapped)
 {
     char key[2 * AT_REST_BYTES + 1], history[HISTORY_TEXT];
     history_write(&it->closed, history);
     write_hex(wrapped->bytes, wrapped->len, key);
     const struct value values[] = {
-        text_value(it->name), number_value(shard), text_value(it->client), text_value(it->stream), text_value(it->before),
+        text_value(it->name), number_value(it->shard), text_value(it->client), text_value(it->stream), text_value(it->before),
         number_value((uint64_t)it->etype), number_value(it->ends), number_value(wrapped->kvno),
         number_value((uint64_t)wrapped->etype), text_value(key), text_value(history),
     };
     return store_run(store, "INSERT INTO opened (name, shard, client, stream, before, etype, ends,"
                             " kvno, wrapping, key, history)"
                             " VALUES ($1, $2, $3, $4, $5, $6, $7, $8, $9, $10, $11)"
-                            " ON CONFLICT (name) DO UPDATE SET ends = excluded.ends,"
-                            " kvno = excluded.kvno, wrapping = excluded.wrapping,"
+                            " ON CONFLICT (name) DO UPDATE SET shard = excluded.shard,"
+                            " ends = excluded.ends, kvno = excluded.kvno, wrapping = excluded.wrapping,"
                             " key = excluded.key", values, sizeof values / sizeof *values);
 }
 
@@ -132,11 +136,10 @@ static int wrap(struct kerberos *kerberos, const struct opened *it, struct wrapp
     return at_rest_wrap(kerberos, AT_REST_RECEIVER, about, it->key, it->key_len, wrapped);
 }
 
-int kept_add(struct store *store, struct kerberos *kerberos, unsigned shard,
-             const struct opened *it)
+int kept_add(struct store *store, struct kerberos *kerberos, const struct opened *it)
 {
     struct wrapped wrapped;
-    return wrap(kerberos, it, &wrapped) == 0 ? add_row(store, shard, it, &wrapped) : -1;
+    return wrap(kerberos, it, &wrapped) == 0 ? add_row(store, it, &wrapped) : -1;
 }
 
 /* Some sessions whose keys are to be wrapped anew. */
@@ -149,12 +152,23 @@ static int note_some(void *given, const struct opened *it)
     return 0;
 }
 
-static int wrap_some(struct store *store, struct kerberos *kerberos, unsigned shard,
-                     const struct some *some)
+static int wrap_again(struct store *store, struct kerberos *kerberos, const struct opened *it)
+{
+    struct wrapped wrapped;
+    char key[2 * AT_REST_BYTES + 1];
+    if (wrap(kerberos, it, &wrapped) != 0)
+        return -1;
+    write_hex(wrapped.bytes, wrapped.len, key);
+    const struct value values[] = { number_value(wrapped.kvno), number_value((uint64_t)wrapped.etype),
+                                    text_value(key), text_value(it->name) };
+    return store_run(store, "UPDATE opened SET kvno = $1, wrapping = $2, key = $3 WHERE name = $4", values, 4);
+}
+
+static int wrap_some(struct store *store, struct kerberos *kerberos, const struct some *some)
 {
     size_t i;
     for (i = 0; i < some->count; i++)
-        if (kept_add(store, kerberos, shard, &some->at[i]) != 0)
+        if (wrap_again(store, kerberos, &some->at[i]) != 0)
             return -1;
     return store->settle(store);
 }
@@ -171,7 +185,7 @@ int kept_wrap_anew(struct store *store, struct kerberos *kerberos, unsigned shar
         answer = store->ask(store, "SELECT " COLUMNS " FROM opened WHERE shard = $1 AND kvno <> $2"
                                   " AND name > $3 ORDER BY name LIMIT 64", values, 3, read_row, &r);
         if (answer == 0)
-            answer = wrap_some(store, kerberos, shard, some);
+            answer = wrap_some(store, kerberos, some);
         explicit_bzero(some, sizeof *some);
     }
     free(some);

@@ -1,6 +1,8 @@
 /* What a store has of sessions that began by a ticket (opening.h): a row each of the table `opened`,
  * in which the key is wrapped (at_rest.h). A row is added in the transaction that takes the opening,
- * and never changed, except that its key is wrapped anew. After one session of a client's stream,
+ * and says the shard of the session: only receivers of that shard go on with it. A row is never changed, but for two
+ * things: its key is wrapped anew, and an opening that says its shard moves the row there, if one of the version before
+ * began the session in another shard, since somebody copied it. After one session of a client's stream,
  * or at its beginning, there is one session at most. */
 #ifndef KEPT_H
 #define KEPT_H
@@ -15,12 +17,13 @@ typedef int kept_take(void *given, const struct opened *it);
 int kept_find(struct store *store, struct kerberos *kerberos, const char *name, kept_take *take,
               void *given);
 
-/* Whether the client's stream has a session after this one already: 1, 0, or -1 after a fault. */
-int kept_is_forked(struct store *store, const struct opened *it);
+/* Whether what the store has lets a session begin: OPENING_OK, OPENING_FORKED if the client's stream has another
+ * session at this place, OPENING_ELSEWHERE if it has this one in another shard, and its opening doesn't say the shard,
+ * or OPENING_FAULT. */
+enum opening_answer kept_judge(struct store *store, const struct opened *it);
 
 /* Within a transaction: adds it. */
-int kept_add(struct store *store, struct kerberos *kerberos, unsigned shard,
-             const struct opened *it);
+int kept_add(struct store *store, struct kerberos *kerberos, const struct opened *it);
 
 /* Outside of one: wraps the keys of a shard's sessions that aren't wrapped under the newest key. 0,
  * or -1 after a fault. */

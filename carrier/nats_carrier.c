@@ -51,6 +51,8 @@ static void end_connection(struct nats_carrier *c)
     c->replies = c->answers = c->receipts = NULL;
     natsConnection_Destroy(c->connection);
     c->connection = NULL;
+    natsSubscription_Destroy(c->left); /* once the connection's thread has ended */
+    c->left = NULL;
 }
 
 static void close_it(struct carrier *base)

@@ -46,6 +46,7 @@ struct nats_carrier {
     uint64_t pending;                   /* frames after the last, when it was delivered */
     uint64_t heard;                     /* when the consumer said something last, in milliseconds */
     natsSubscription *reader;
+    natsSubscription *left;         /* the one before: nothing comes for it any more */
     natsMsg *held[NATS_HELD];
     int held_count;
     natsSubscription *receipts;         /* all that are published, from the first look on */

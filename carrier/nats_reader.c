@@ -26,11 +26,28 @@ static void let_go(struct nats_carrier *c)
         natsMsg_Destroy(c->held[--c->held_count]);
 }
 
-/* Ends the consumer, which servers forget then. What was fetched stays held. */
+/* What has come and wasn't fetched. What comes meanwhile isn't waited for. */
+static void drop_pending(natsSubscription *reader)
+{
+    natsMsg *message = NULL;
+    int count = 0, bytes;
+    if (natsSubscription_GetPending(reader, &count, &bytes) != NATS_OK)
+        return;
+    for (; count > 0 && natsSubscription_NextMsg(&message, reader, 0) == NATS_OK; count--)
+        natsMsg_Destroy(message);
+}
+
+/* Ends the consumer, which servers forget then. What was fetched stays held. The thread of libnats 3.4 may have looked
+ * the subscription up and use it still, so it is destroyed only when the next one ends. */
 static void leave(struct nats_carrier *c)
 {
-    natsSubscription_Destroy(c->reader);
+    if (c->reader == NULL)
+        return;
+    natsSubscription_Destroy(c->left);
+    c->left = c->reader;
     c->reader = NULL;
+    drop_pending(c->left);
+    (void)natsSubscription_Unsubscribe(c->left); /* without a connection there is nothing to end */
 }
 
 void nats_stop_reading(struct nats_carrier *c)

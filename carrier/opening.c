@@ -4,13 +4,14 @@
 #include "private.h"
 #include "sessions.h"
 #include "text.h"
+#include "words.h"
 
 #include <errno.h>
 #include <string.h>
 
 enum { AP_REQ = 0x6e, NAME_BYTES = 16 };
 
-static const char begin[] = "krbrelay session "; /* and the form: 1 or 2 */
+static const char begin[] = "krbrelay session "; /* and the form: 1, 2 or 3 */
 
 #define OPENING_NAME_OF(name) "OPENING_" #name,
 
@@ -102,14 +103,23 @@ int opening_session(struct kerberos *k, const struct opened *it, unsigned shard,
 
 /* ---- The text */
 
+/* The form of a text: those before the third don't say the shard. */
+static char form_of(const struct opened *it, int has_history)
+{
+    if (it->says_shard)
+        return '3';
+    return has_history ? '2' : '1';
+}
+
 void opening_text(const struct opened *it, char text[OPENING_TEXT])
 {
-    char history[HISTORY_TEXT];
+    char history[HISTORY_TEXT], shard[16] = "";
     int has_history = it->before[0] != 0 && it->closed.is_known;
     history_write(&it->closed, history);
-    write_whole(text, OPENING_TEXT, "%s%c %s %s %s%s%s", begin, has_history ? '2' : '1', it->name,
-                it->stream, it->before[0] != 0 ? it->before : "-", has_history ? " " : "",
-                has_history ? history : "");
+    if (it->says_shard)
+        write_whole(shard, sizeof shard, " %u", it->shard);
+    write_whole(text, OPENING_TEXT, "%s%c %s %s %s%s%s%s", begin, form_of(it, has_history), it->name, it->stream,
+                it->before[0] != 0 ? it->before : "-", shard, has_history ? " " : "", has_history ? history : "");
 }
 
 /* Copies a word up to a space or the end, and moves past it: 1, or 0 if it is no name. */
@@ -124,6 +134,19 @@ static int read_word(const char **at, char name[CARRIER_NAME])
     return sessions_may_have(name);
 }
 
+/* The same of a shard, of the third form: any number below the last one. */
+static int read_shard(const char **at, struct opened *it)
+{
+    char word[CARRIER_NAME];
+    uint64_t shard;
+    if (!read_word(at, word) || !read_number(word, 0, CARRIER_SHARDS - 1, &shard))
+        return 0;
+    it->shard = (unsigned)shard;
+    it->says_shard = 1;
+    return 1;
+}
+
+/* A text is of that form if the same is written of what it says. */
 static int read_text(const uint8_t *bytes, size_t len, struct opened *it)
 {
     char text[OPENING_TEXT], again[OPENING_TEXT];
@@ -136,6 +159,8 @@ static int read_text(const uint8_t *bytes, size_t len, struct opened *it)
         return 0;
     if (strcmp(it->before, "-") == 0)
         it->before[0] = 0;
+    if (text[sizeof begin - 1] == '3' && !read_shard(&at, it))
+        return 0;
     history_read(&it->closed, at);
     opening_text(it, again);
     return strlen(again) == len && memcmp(again, bytes, len) == 0;
@@ -301,8 +326,8 @@ static enum opening_answer take_request(struct kerberos *k, krb5_auth_context *a
     return answer;
 }
 
-enum opening_answer opening_take(struct kerberos *k, const char *name, const uint8_t *frame,
-                                 size_t len, struct opened *it)
+enum opening_answer opening_take(struct kerberos *k, unsigned shard, const char *name,
+                                 const uint8_t *frame, size_t len, struct opened *it)
 {
     size_t size = len <= OPENING ? size_of(frame, len) : 0;
     krb5_auth_context auth = NULL;
@@ -312,6 +337,9 @@ enum opening_answer opening_take(struct kerberos *k, const char *name, const uin
         return OPENING_MALFORMED;
     if (strcmp(it->name, name) != 0)
         return OPENING_NAME;
+    if (it->says_shard && it->shard != shard)
+        return OPENING_ELSEWHERE;
+    it->shard = shard;
     if (kerberos_set_clock(k) != 0 || krb5_auth_con_init(k->context, &auth) != 0)
         return OPENING_FAULT;
     answer = take_request(k, &auth, frame, size, len, it);

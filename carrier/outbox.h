@@ -145,7 +145,6 @@ int outbox_drop_stopped(struct outbox *outbox);
 struct begun {
     struct opened opened;
     uint64_t turn, since; /* begun in this second */
-    unsigned shard;
     int is_closed;
 };
 
@@ -156,8 +155,11 @@ int outbox_find_begun(struct outbox *outbox, struct kerberos *kerberos, const ch
 int outbox_find_stream(struct outbox *outbox, struct kerberos *kerberos, const char *stream,
                        struct begun *it);
 
+/* Wraps its key as its row is to have it: 0, or -1 with a report, as where the keytab can't be read. */
+int outbox_wrap(struct kerberos *kerberos, const struct begun *it, struct wrapped *wrapped);
+
 /* In a transaction: adds it, or notes that it is closed. */
-int outbox_add_begun(struct outbox *outbox, struct kerberos *kerberos, const struct begun *it);
+int outbox_add_begun(struct outbox *outbox, const struct begun *it, const struct wrapped *wrapped);
 int outbox_close_begun(struct outbox *outbox, const struct begun *it);
 
 /* The same: forgets sessions of its stream that ended before the one before it, and of which nothing waits for a

@@ -37,7 +37,8 @@ static int read_columns(sqlite3_stmt *row, struct begun *it, struct wrapped *wra
     opened->etype = sqlite3_column_int(row, ETYPE);
     it->turn = (uint64_t)sqlite3_column_int64(row, TURN);
     it->since = (uint64_t)sqlite3_column_int64(row, SINCE);
-    it->shard = (unsigned)sqlite3_column_int(row, SHARD) % CARRIER_SHARDS;
+    opened->shard = (unsigned)sqlite3_column_int(row, SHARD) % CARRIER_SHARDS;
+    opened->says_shard = 1;
     it->is_closed = sqlite3_column_int(row, CLOSED);
     wrapped->kvno = (uint32_t)sqlite3_column_int64(row, KVNO);
     wrapped->etype = sqlite3_column_int(row, WRAPPING);
@@ -104,26 +105,29 @@ int outbox_forget_ended(struct outbox *o, const struct begun *it, struct ended *
     return row >= 0 ? answer : -1;
 }
 
-int outbox_add_begun(struct outbox *o, struct kerberos *kerberos, const struct begun *it)
+int outbox_wrap(struct kerberos *kerberos, const struct begun *it, struct wrapped *wrapped)
+{
+    const struct opened *opened = &it->opened;
+    char about[AT_REST_ABOUT];
+    write_about(opened, about);
+    return at_rest_wrap(kerberos, AT_REST_SENDER, about, opened->key, opened->key_len, wrapped);
+}
+
+int outbox_add_begun(struct outbox *o, const struct begun *it, const struct wrapped *wrapped)
 {
     struct statement *add = &o->statements[ADD_OPENED];
     const struct opened *opened = &it->opened;
-    struct wrapped wrapped;
-    char about[AT_REST_ABOUT];
-    write_about(opened, about);
-    if (at_rest_wrap(kerberos, AT_REST_SENDER, about, opened->key, opened->key_len, &wrapped) != 0)
-        return -1;
     bind_text(add, 1 + NAME, opened->name);
     bind_text(add, 1 + STREAM, opened->stream);
     bind_text(add, 1 + BEFORE, opened->before);
     bind_number(add, 1 + ETYPE, opened->etype);
     bind_number(add, 1 + TURN, (sqlite3_int64)it->turn);
     bind_number(add, 1 + SINCE, (sqlite3_int64)it->since);
-    bind_number(add, 1 + SHARD, it->shard);
+    bind_number(add, 1 + SHARD, opened->shard);
     bind_number(add, 1 + CLOSED, it->is_closed);
-    bind_number(add, 1 + KVNO, wrapped.kvno);
-    bind_number(add, 1 + WRAPPING, wrapped.etype);
-    bind_bytes(add, 1 + KEY, wrapped.bytes, wrapped.len);
+    bind_number(add, 1 + KVNO, wrapped->kvno);
+    bind_number(add, 1 + WRAPPING, wrapped->etype);
+    bind_bytes(add, 1 + KEY, wrapped->bytes, wrapped->len);
     return step_once(add);
 }
 
@@ -142,12 +146,13 @@ static int wrap_next(struct outbox *o, struct kerberos *kerberos, uint32_t kvno,
                      char after[CARRIER_NAME])
 {
     struct begun it;
+    struct wrapped wrapped;
     int found;
     bind_number(&o->statements[SELECT_WRAPPED], 1, kvno);
     bind_text(&o->statements[SELECT_WRAPPED], 2, after);
     found = find(o, SELECT_WRAPPED, kerberos, &it);
     memcpy(after, it.opened.name, CARRIER_NAME);
-    if (found == 1 && outbox_add_begun(o, kerberos, &it) != 0)
+    if (found == 1 && (outbox_wrap(kerberos, &it, &wrapped) != 0 || outbox_add_begun(o, &it, &wrapped) != 0))
         found = -1;
     explicit_bzero(&it, sizeof it);
     return found;

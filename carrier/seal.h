@@ -17,7 +17,8 @@ struct sending {
     struct session of;          /* the first member: it is found by its name */
     struct begun *begun;        /* how it begins by a ticket; NULL: it has a line */
     struct stream *stream;      /* whose session it is then, */
-    int is_stored;              /* the outbox has its row: its opening may leave, */
+    struct wrapped *wrapped;    /* its key as the outbox is to have it; NULL: it has it, */
+    int is_stored;              /* and its row: its opening may leave, */
     int is_held;                /* but waits for a ticket, or for the session before, */
     int is_closing;             /* and this transaction closes it, since it is old */
     uint32_t tag;               /* of its frames' confirmations */

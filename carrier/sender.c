@@ -85,7 +85,7 @@ enum outbox_answer sender_end_stop(struct sender *s, const char *session)
 /* Stores a session that begins by a ticket, and that it is closed. */
 static int keep_begun(struct sender *s, const struct sending *it)
 {
-    if (!it->is_stored && (outbox_add_begun(&s->outbox, s->kerberos, it->begun) != 0
+    if (!it->is_stored && (outbox_add_begun(&s->outbox, it->begun, it->wrapped) != 0
                            || outbox_forget_ended(&s->outbox, it->begun, &s->ended) != 0))
         return -1;
     return it->is_closing ? outbox_close_begun(&s->outbox, it->begun) : 0;
@@ -163,6 +163,8 @@ static void note_kept(struct sender *s)
         it->kept.next = it->end.progress.next;
         it->is_touched = 0;
         it->is_stored = 1;
+        free(it->wrapped);
+        it->wrapped = NULL;
         sender_note_renewed(it, 1);
         publish_note(s, it);
     }

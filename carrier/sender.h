@@ -136,8 +136,8 @@ int sender_is_after(const struct sender *s, const struct sending *it);
 /* Notes in what its opening says the history of the session before it, if that is known. */
 void sender_note_before(struct sender *s, struct sending *it);
 
-/* Closes it, and gives the next one. `id` is the text's. Within a transaction, after which
- * sender_note_renewed is called of each session from which something was sealed. */
+/* Closes it, and gives the next one. `id` is the text's. Where the keytab can't be read, it goes on as it is. Within a
+ * transaction, after which sender_note_renewed is called of each session from which something was sealed. */
 enum seal_answer sender_renew(struct sender *s, struct sending **it, sqlite3_int64 id);
 void sender_note_renewed(struct sending *it, int is_kept);
 

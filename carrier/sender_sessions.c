@@ -37,6 +37,7 @@ static void free_sending(struct sending *it)
     if (it->begun != NULL)
         explicit_bzero(it->begun, sizeof *it->begun);
     free(it->begun);
+    free(it->wrapped);
     explicit_bzero(it, sizeof *it);
     free(it);
 }

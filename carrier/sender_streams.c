@@ -15,16 +15,17 @@ enum { MOST_TRIES = 7 };             /* doubled so often at most: up to some fou
 
 /* ---- Sessions of streams */
 
-/* Adds a session. NULL after a fault of the outbox, or out of memory. */
+/* Adds a session that is stored, or that begins: then it takes the wrapped key. NULL after a fault of the outbox, or
+ * out of memory. */
 static struct sending *add(struct sender *s, struct stream *stream, const struct begun *it,
-                           int is_stored)
+                           struct wrapped *wrapped)
 {
     struct begun *copy = malloc(sizeof *copy);
     struct sending *added = NULL;
     struct session of;
     if (copy != NULL) {
         *copy = *it;
-        if (opening_session(s->kerberos, &it->opened, it->shard, &of) == 0)
+        if (opening_session(s->kerberos, &it->opened, it->opened.shard, &of) == 0)
             added = sender_add(s, &of);
         explicit_bzero(&of, sizeof of);
     }
@@ -36,7 +37,8 @@ static struct sending *add(struct sender *s, struct stream *stream, const struct
     }
     added->begun = copy;
     added->stream = stream;
-    added->is_stored = is_stored;
+    added->wrapped = wrapped;
+    added->is_stored = wrapped == NULL;
     return added;
 }
 
@@ -44,17 +46,38 @@ static struct sending *add(struct sender *s, struct stream *stream, const struct
 static unsigned shard_of(const struct sender *s, const struct stream *stream,
                          const struct begun *last)
 {
-    return last != NULL ? last->shard : kerberos_shard(&s->options.kerberos, stream->name);
+    return last != NULL ? last->opened.shard : kerberos_shard(&s->options.kerberos, stream->name);
 }
 
-/* Begins the next session of a stream. */
-static struct sending *begin(struct sender *s, struct stream *stream, const struct begun *last)
+/* Adds a session for which all but the key is said: 1, 0 if there is no key under which it could be wrapped, -1 after
+ * a fault. */
+static int add_new(struct sender *s, struct stream *stream, struct begun *it, struct sending **added)
+{
+    struct wrapped *wrapped = malloc(sizeof *wrapped);
+    int can_wrap = 0;
+    *added = NULL;
+    if (wrapped == NULL || opening_draw(s->kerberos, &it->opened) != 0) {
+        free(wrapped);
+        return -1;
+    }
+    can_wrap = outbox_wrap(s->kerberos, it, wrapped) == 0;
+    if (can_wrap)
+        *added = add(s, stream, it, wrapped);
+    if (*added == NULL)
+        free(wrapped);
+    return can_wrap && *added == NULL ? -1 : can_wrap;
+}
+
+/* Begins the next session of a stream. Its key is wrapped before anything is sealed under it, so that no transaction,
+ * which has texts of other sessions too, waits for the keytab. Answers as add_new. */
+static int begin(struct sender *s, struct stream *stream, const struct begun *last, struct sending **added)
 {
     struct begun it = { 0 };
-    struct sending *added = NULL;
+    int answer;
     memcpy(it.opened.stream, stream->name, sizeof it.opened.stream);
     it.turn = 1;
-    it.shard = shard_of(s, stream, last);
+    it.opened.shard = shard_of(s, stream, last);
+    it.opened.says_shard = 1;
     it.since = read_clock().seconds;
     if (it.since <= s->renew)
         it.since = s->renew + 1; /* SIGHUP came in this second */
@@ -62,15 +85,14 @@ static struct sending *begin(struct sender *s, struct stream *stream, const stru
         memcpy(it.opened.before, last->opened.name, sizeof it.opened.before);
         it.turn = last->turn + 1;
     }
-    if (opening_draw(s->kerberos, &it.opened) == 0)
-        added = add(s, stream, &it, 0);
+    answer = add_new(s, stream, &it, added);
     explicit_bzero(&it, sizeof it);
-    return added;
+    return answer;
 }
 
 /* ---- Streams */
 
-/* Makes a stream what the outbox has of it: answers as sender_find, 0 if its key can't be read. */
+/* Makes a stream what the outbox has of it: answers as sender_find, 0 if its key can't be read, or wrapped. */
 static int load(struct sender *s, struct stream *stream)
 {
     struct begun last;
@@ -78,7 +100,7 @@ static int load(struct sender *s, struct stream *stream)
     if (found == 1 && !last.is_closed)
         answer = sender_find_begun(s, last.opened.name, &stream->now);
     else if (found >= 0)
-        answer = (stream->now = begin(s, stream, found == 1 ? &last : NULL)) != NULL ? 1 : -1;
+        answer = begin(s, stream, found == 1 ? &last : NULL, &stream->now);
     explicit_bzero(&last, sizeof last);
     return answer;
 }
@@ -110,7 +132,7 @@ int sender_find_begun(struct sender *s, const char *name, struct sending **it)
         is_there = 0; /* which is reported: its frames stay until its key can be read */
     stream = is_there ? stream_of(s, row.opened.stream) : NULL;
     if (stream != NULL)
-        *it = add(s, stream, &row, 1);
+        *it = add(s, stream, &row, NULL);
     explicit_bzero(&row, sizeof row);
     return is_there && *it == NULL ? -1 : is_there;
 }
@@ -208,8 +230,9 @@ enum seal_answer sender_renew(struct sender *s, struct sending **it, sqlite3_int
     struct sending *old = *it;
     struct stream *stream = old->stream;
     enum seal_answer answer;
-    if (stream->next == NULL && (stream->next = begin(s, stream, old->begun)) == NULL)
-        return SEAL_FAULT;
+    int begun = stream->next != NULL ? 1 : begin(s, stream, old->begun, &stream->next);
+    if (begun != 1)
+        return begun == 0 ? SEAL_OK : SEAL_FAULT;
     answer = seal_close(&s->sealing, old, id);
     if (answer != SEAL_OK)
         return answer;

@@ -186,7 +186,8 @@ static void take_unknown(struct shard *s, const struct carried *it)
     else
         log_fact(LEVEL_WARNING, "session_unknown", field_text("session", it->session),
                  field_number("shard", s->number), field_number("offset", it->offset),
-                 field_text("text", "it has no line: it is passed by, and its sender sends it again"));
+                 field_text("text", "it has no line, and began by no ticket in this shard: it is passed by, and its"
+                                    " sender sends it again"));
 }
 
 /* ---- A frame that is accepted */
@@ -282,7 +283,7 @@ static int take_opening(struct shard *s, struct receiving *of, const struct carr
 }
 
 /* A frame of a session that may not begin yet: it is asked for again. The row of the session before is compared, since
- * a receiver of another shard, in which somebody wrote its frames again, may have gone on with it. */
+ * a receiver of the version before, of another shard in which somebody wrote its frames again, may have gone on with it. */
 static int take_before_turn(struct shard *s, struct receiving *of, const struct carried *it)
 {
     const struct krbrelay_seen seen = { .has_opened = 1, .opened = of->of.first };
@@ -352,7 +353,7 @@ static int advance_all(struct shard *s)
         draft(it);
         if (store_advance(s->store, it->of.name, &it->stored, &it->now) != 0)
             return -1;
-        if (it->opened_at > 0 && kept_add(s->store, s->kerberos, s->number, it->opened) != 0)
+        if (it->opened_at > 0 && kept_add(s->store, s->kerberos, it->opened) != 0)
             return -1;
     }
     return 0;

@@ -32,20 +32,31 @@ static struct receiving *add(struct shard *s, const struct opened *it)
 
 /* ---- From the store */
 
-/* A row that is looked for by its name. */
-struct sought { struct shard *shard; struct receiving *found; };
+/* A row that is looked for by its name, perhaps as that of the session before one that is known. */
+struct sought { struct shard *shard; const struct opened *after; struct receiving *found; };
 
+static int is_same_stream(const struct opened *one, const struct opened *other)
+{
+    return strcmp(one->client, other->client) == 0 && strcmp(one->stream, other->stream) == 0;
+}
+
+/* A session is of the shard that its row says. A stream is in one shard, so the session before one of this shard is of
+ * it too, also if its row says another one: its opening, of the version before, was copied there. */
 static int note_found(void *given, const struct opened *it)
 {
     struct sought *sought = given;
+    int is_here = it->shard == sought->shard->number;
+    if (!is_here && (sought->after == NULL || !is_same_stream(it, sought->after)))
+        return 0;
     sought->found = add(sought->shard, it);
     return sought->found != NULL ? 0 : -1;
 }
 
-/* The session of this name: 1, 0 and NULL if the store has none, -1 after a fault. */
-static int find_stored(struct shard *s, const char *name, struct receiving **found)
+/* The session of this name, or the one of this name before another one: 1, 0 and NULL if the store has none in this
+ * shard, -1 after a fault. */
+static int find_stored(struct shard *s, const char *name, const struct opened *after, struct receiving **found)
 {
-    struct sought sought = { s, NULL };
+    struct sought sought = { s, after, NULL };
     if (kept_find(s->store, s->kerberos, name, note_found, &sought) != 0)
         return -1;
     *found = sought.found;
@@ -63,7 +74,7 @@ int shard_find_before(struct shard *s, const struct receiving *of, struct receiv
         return 0;
     answer = shard_find(s, name, found);
     if (answer == 0)
-        answer = find_stored(s, name, found);
+        answer = find_stored(s, name, of->opened, found);
     return answer >= 0 ? 0 : -1;
 }
 
@@ -73,8 +84,7 @@ static struct krbrelay_head head_before(struct shard *s, const struct receiving 
     struct krbrelay_head head = { 0 };
     struct receiving *before;
     if (shard_find(s, of->opened->before, &before) != 1 || before->turn != s->turn
-        || before->opened == NULL || strcmp(before->opened->client, of->opened->client) != 0
-        || strcmp(before->opened->stream, of->opened->stream) != 0)
+        || before->opened == NULL || !is_same_stream(before->opened, of->opened))
         return head;
     *is_known = before->stored.history.is_known;
     head.turn = 1;
@@ -128,30 +138,28 @@ static int refuse(struct shard *s, const struct carried *it, enum opening_answer
     return 0;
 }
 
-/* Whether the client's stream has another session after the one before: 1, 0, or -1 after a
- * fault. */
-static int is_rival(struct shard *s, const struct opened *it)
+/* Whether a session may begin, beside those that this transaction begins, and by what the store has. */
+static enum opening_answer judge_place(struct shard *s, const struct opened *it)
 {
     size_t i;
     for (i = 0; i < s->news.count; i++) {
         const struct opened *other = ((struct receiving *)s->news.at[i])->opened;
-        if (strcmp(other->client, it->client) == 0 && strcmp(other->stream, it->stream) == 0
-            && strcmp(other->before, it->before) == 0)
-            return 1;
+        if (is_same_stream(other, it) && strcmp(other->before, it->before) == 0)
+            return OPENING_FORKED;
     }
-    return kept_is_forked(s->store, it);
+    return kept_judge(s->store, it);
 }
 
 static int open_session(struct shard *s, const struct carried *it, struct receiving **found)
 {
     struct opened opened;
-    enum opening_answer answer = opening_take(s->kerberos, it->session, it->frame, it->len, &opened);
-    int is_forked = answer == OPENING_OK ? is_rival(s, &opened) : 0, done = -1;
-    if (is_forked == 1)
-        answer = OPENING_FORKED;
+    enum opening_answer answer = opening_take(s->kerberos, s->number, it->session, it->frame, it->len, &opened);
+    int done = -1;
+    if (answer == OPENING_OK)
+        answer = judge_place(s, &opened);
     if (answer > OPENING_OK)
         done = refuse(s, it, answer, &opened);
-    else if (answer == OPENING_OK && is_forked == 0) {
+    else if (answer == OPENING_OK) {
         *found = add(s, &opened);
         done = *found != NULL ? 1 : -1;
     }
@@ -168,7 +176,7 @@ int shard_find_opened(struct shard *s, const struct carried *it, struct receivin
     int answer, is_opening = opening_is(it->frame, it->len);
     if (!sessions_may_have(it->session) || (!is_opening && strcmp(s->unknown, it->session) == 0))
         return 0;
-    answer = find_stored(s, it->session, found);
+    answer = find_stored(s, it->session, NULL, found);
     if (answer != 0)
         return answer;
     memcpy(s->unknown, it->session, sizeof s->unknown);

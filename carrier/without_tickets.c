@@ -45,8 +45,8 @@ int opening_session(struct kerberos *kerberos, const struct opened *it, unsigned
     return never();
 }
 
-enum opening_answer opening_take(struct kerberos *kerberos, const char *name, const uint8_t *frame,
-                                 size_t len, struct opened *it)
+enum opening_answer opening_take(struct kerberos *kerberos, unsigned shard, const char *name,
+                                 const uint8_t *frame, size_t len, struct opened *it)
 {
     return (enum opening_answer)never();
 }

@@ -116,6 +116,14 @@ void check_effect(struct world *w, uint32_t name)
                     place);
 }
 
+/* A session goes on in its own shard: where each shard has a store of its own, its texts would take effect once more. */
+void check_shard(struct world *w, uint32_t key, uint32_t shard)
+{
+    uint32_t own = name_shard(w, w->keys.at[key].name);
+    if (shard != own)
+        world_wrong(w, "session %u of shard %u goes on in shard %u", (unsigned)key, (unsigned)own, (unsigned)shard);
+}
+
 /* The effects of one outbox's texts under a name are in their order, each at most once. Of two outboxes that put a text
  * into records of different numbers, each may bring it. */
 static void check_order_of(struct world *w, const struct outbox *o, uint32_t name)

@@ -10,12 +10,14 @@ static int is_within(uint64_t one, uint64_t other, uint64_t skew)
     return (one > other ? one - other : other - one) <= skew;
 }
 
-/* A session of the store, whose key has to be readable, or NULL. Keys are wrapped under several others, of which some
- * may be missing. */
+/* A session of this shard that the store has, whose key has to be readable, or NULL. Keys are wrapped under several
+ * others, of which some may be missing. */
 static struct receiving *find_stored(struct world *w, struct receiver *r, uint32_t key)
 {
+    const struct opened *opened = store_opened(w, &w->store, key);
+    int is_here = opened->is_there && (opened->shard == r->shard || w->plant == PLANT_ANY_SHARD);
     struct receiving *it;
-    if (!store_opened(w, &w->store, key)->is_there || world_strikes(w, FAULT_RECEIVER_KEYS, 600))
+    if (!is_here || world_strikes(w, FAULT_RECEIVER_KEYS, 600))
         return NULL;
     it = receiver_add(w, r, key);
     it->opened = *store_opened(w, &w->store, key);
@@ -98,6 +100,10 @@ static struct receiving *open_session(struct world *w, struct receiver *r, const
 {
     const struct frame *frame = &w->frames.at[it->frame];
     struct receiving *found;
+    if (frame->shard != r->shard && w->plant != PLANT_OPENS_ANYWHERE) {
+        w->counts[COUNT_ELSEWHERE]++;
+        return NULL;
+    }
     if (!is_taken(w, r, it, frame)) {
         w->counts[COUNT_UNOPENED]++;
         return NULL;
@@ -105,6 +111,7 @@ static struct receiving *open_session(struct world *w, struct receiver *r, const
     found = receiver_add(w, r, it->key);
     found->opened_at = offset;
     found->opened.is_there = 1;
+    found->opened.shard = r->shard;
     memcpy(found->opened.closed, frame->closed, sizeof frame->closed);
     world_add(w, &r->news, it->key);
     return found;

@@ -29,6 +29,8 @@
     X(NOT_COMPARED, "the session before isn't compared") \
     X(ANY_TURN, "another session of a turn that was had begins") \
     X(ANY_RIVAL, "a second session after one is stored") \
+    X(OPENS_ANYWHERE, "an opening is taken in another shard") \
+    X(ANY_SHARD, "a session of another shard is gone on with") \
     X(NO_ROWS, "rows aren't compared") \
     X(NO_SPOTS, "offsets aren't compared") \
     X(LEAVES_UNSTORED, "frames leave before they are stored") \

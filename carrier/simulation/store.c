@@ -105,6 +105,7 @@ void store_commit(struct world *w, const struct taking *it)
     for (i = 0; i < it->changes.count; i++) {
         const struct change *change = &it->changes.at[i];
         *store_row(w, &w->store, change->key) = change->to;
+        check_shard(w, change->key, change->to.shard);
         if (change->opened.is_there && !store_opened(w, &w->store, change->key)->is_there) {
             *store_opened(w, &w->store, change->key) = change->opened;
             w->counts[COUNT_OPENED]++;

@@ -111,11 +111,13 @@ static int is_old(const struct world *w, const struct sending *it)
     return it->is_stream && it->is_stored && it->sealed > w->keys.at[it->key].life;
 }
 
-/* Closes a session, and gives the next one. */
+/* Closes a session, and gives the next one. Where that one's key can't be wrapped, this one goes on. */
 static uint32_t renew(struct world *w, uint32_t who, uint32_t name, uint32_t place)
 {
     struct sender *s = &w->senders[who];
     const struct frame close = { .kind = FRAME_CLOSE };
+    if (s->streams[name].next == NONE && world_strikes(w, FAULT_SENDER_KEYS, 1000))
+        return place;
     if (s->streams[name].next == NONE) {
         uint32_t key = s->sessions.at[place].key;
         s->streams[name].next = sender_add(w, who, world_key(w, name, key, w->keys.at[key].turn + 1), 0);

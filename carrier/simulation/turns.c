@@ -67,13 +67,13 @@ static uint32_t frame_of(const struct world *w, struct outbox *o, const struct s
     return NONE;
 }
 
-/* An opening is made anew each time: 0 if there is no ticket. It has the history of the session before. */
+/* An opening is made anew each time: 0 if there is no ticket. It has its shard, and the history of the session before. */
 static int publish_opening(struct world *w, uint32_t who, struct sending *it)
 {
     struct sender *s = &w->senders[who];
     const struct key *key = &w->keys.at[it->key];
     const struct row *before = key->before != NONE ? outbox_row(&w->outboxes[s->outbox], key->before) : NULL;
-    struct frame opening = { .key = it->key, .kind = FRAME_OPENING };
+    struct frame opening = { .key = it->key, .shard = it->lane, .kind = FRAME_OPENING };
     if (s->ticket == 0)
         return 0;
     opening.time = (uint64_t)((int64_t)(w->now + (UINT64_C(1) << 40)) + s->wall);

@@ -32,6 +32,7 @@ enum { SENDERS = 12, RECEIVERS = 24, OUTBOXES = 8, CODE = 12 };
     X(UNKNOWN, "frames of nobody") \
     X(OPENED, "sessions of streams that began") \
     X(UNOPENED, "openings refused") \
+    X(ELSEWHERE, "openings refused in another shard") \
     X(FORKED, "openings of a fork") \
     X(STOPPED, "sessions stopped") \
     X(STANDING, "sessions that stand at the end") \
@@ -48,9 +49,9 @@ struct numbers { uint32_t *at; size_t count, room; };
 
 enum frame_kind { FRAME_TEXTS, FRAME_CLOSE, FRAME_OPENING, FRAME_NOISE };
 
-/* A frame, or an opening, which has the history of the session before. */
+/* A frame, or an opening, which has its shard and the history of the session before. */
 struct frame {
-    uint32_t key, number;
+    uint32_t key, number, shard;
     enum frame_kind kind;
     unsigned count;
     uint32_t texts[BATCH];
@@ -103,7 +104,7 @@ struct demand {
     uint8_t history[KRBRELAY_HISTORY_SIZE];
     uint32_t closed, shard, missed, is_stored;
 };
-struct opened { int is_there; uint8_t closed[KRBRELAY_HISTORY_SIZE]; };
+struct opened { int is_there; uint32_t shard; uint8_t closed[KRBRELAY_HISTORY_SIZE]; };
 struct effect { uint32_t text, key; int is_aside; };
 
 struct store {
@@ -377,6 +378,7 @@ void fault_start(struct world *w, uint32_t who, int is_sender);
 
 int check_is_through(struct world *w);
 void check_effect(struct world *w, uint32_t name);
+void check_shard(struct world *w, uint32_t key, uint32_t shard);
 void check_begin(struct world *w, const struct frame *it);
 void check_leave(struct world *w, uint32_t who, uint32_t key);
 void check_done(struct world *w, uint32_t who, const struct sending *it);

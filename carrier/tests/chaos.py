@@ -385,18 +385,25 @@ class Trial:
                    threading.Thread(target=disturber.run, args=(until,))]
         noise = subprocess.Popen([f"{given.programs}/noise", *self.options(), "--seed",
                                   str(given.seed), "--seconds", str(given.seconds)],
-                                 stdout=subprocess.PIPE, stderr=subprocess.DEVNULL, text=True)
+                                 stdout=subprocess.PIPE, stderr=subprocess.PIPE, text=True)
         for thread in threads:
             thread.start()
         while any(thread.is_alive() for thread in threads):
             self.processes.tend(self.counts)
             time.sleep(0.2)
         self.counts += disturber.counts
-        found = re.search(r"(\d+) repeats, (\d+) altered", noise.communicate(timeout=60)[0] or "")
+        self.count_noise(noise)
+        self.await_whole(feeder)
+
+    def count_noise(self, noise):
+        """A run whose noise ended before it told its counts has tested less than it says."""
+        told, log = noise.communicate(timeout=60)
+        found = re.search(r"(\d+) repeats, (\d+) altered", told)
         if found:
             self.counts["repeated by noise"] = int(found[1])
             self.counts["altered by noise"] = int(found[2])
-        self.await_whole(feeder)
+        else:
+            self.faults.append(f"noise ended with {noise.returncode}: {log[-4000:].strip()}")
 
     def await_whole(self, feeder):
         for name in self.processes.of_kind("sender"):

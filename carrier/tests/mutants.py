@@ -92,6 +92,8 @@ TICKETS = {
     "the checksum of the text isn't compared": ("a checksum of another text", "opened: ["),
     "the name isn't compared with the key": ("a name that isn't the key's", "opened: ["),
     "each client is allowed": ("a client that isn't allowed", "opened: ["),
+    "each shard takes an opening": ("another shard's", "opened: ["),
+    "each shard goes on with a session": ("copied_elsewhere", "in another shard: "),
     "no session waits for the one before": ("before_its_turn", "delivered"),
     "a stream goes on without its key": ("keytab_moment", "delivered"),
 }
@@ -109,6 +111,15 @@ TICKET_EDITS = {
     return is_found;
 """, """\
     return is_found || client != NULL;
+"""),
+    "each shard takes an opening": ("opening.c", """\
+    if (it->says_shard && it->shard != shard)
+        return OPENING_ELSEWHERE;
+""", ""),
+    "each shard goes on with a session": ("shard_open.c", """\
+    int is_here = it->shard == sought->shard->number;
+""", """\
+    int is_here = it->shard < CARRIER_SHARDS;
 """),
     "a stream goes on without its key": ("sender_streams.c", """\
         stream->left = STREAM_LEFT; /* so that no later text of it is taken before this one */

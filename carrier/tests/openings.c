@@ -1,6 +1,6 @@
-/* openings KIND KEYTAB CLIENT SERVICE ETYPE STREAM [BEFORE]: makes an opening of a session
- * (opening.h), or one that isn't right, as its kind says, and prints its name and the frame in
- * hexadecimal:
+/* openings KIND KEYTAB CLIENT SERVICE ETYPE STREAM SHARD [BEFORE [HISTORY]]: makes an opening of a session
+ * (opening.h), of a version before if SHARD is '-', or one that isn't right, as its kind says, and prints its name and
+ * the frame in hexadecimal:
  *     good        as it has to be
  *     no-subkey   without a subkey
  *     no-text     without a checksum of the text
@@ -10,6 +10,7 @@
 #include "check.h"
 #include "opening.h"
 #include "text.h"
+#include "words.h"
 
 #include <gssapi/gssapi.h>
 #include <gssapi/gssapi_krb5.h>
@@ -110,6 +111,18 @@ static void draw(const char *kind, int etype, krb5_keyblock *key, struct opened 
     *key = (krb5_keyblock){ KV5M_KEYBLOCK, etype, (unsigned)it->key_len, it->key };
 }
 
+/* What the words after ETYPE say. */
+static void read_said(struct opened *it, int count, char **words)
+{
+    uint64_t shard = 0;
+    it->says_shard = strcmp(words[1], "-") != 0;
+    check(copy_text(it->stream, sizeof it->stream, words[0]), "stream");
+    check(!it->says_shard || read_number(words[1], 0, CARRIER_SHARDS - 1, &shard), "shard");
+    check(copy_text(it->before, sizeof it->before, count > 2 ? words[2] : ""), "before");
+    history_read(&it->closed, count > 3 ? words[3] : "");
+    it->shard = (unsigned)shard;
+}
+
 int main(int count, char **words)
 {
     struct opened it = { .name = "" };
@@ -117,12 +130,11 @@ int main(int count, char **words)
     krb5_keyblock key;
     krb5_creds *creds;
     krb5_data request;
-    check(count >= 7, "KIND KEYTAB CLIENT SERVICE ETYPE STREAM [BEFORE]");
+    check(count >= 8, "KIND KEYTAB CLIENT SERVICE ETYPE STREAM SHARD [BEFORE [HISTORY]]");
     must(krb5_init_context(&context), "context");
     creds = get_ticket(words[2], words[3], words[4]);
     draw(words[1], atoi(words[5]), &key, &it);
-    check(copy_text(it.stream, sizeof it.stream, words[6]), "stream");
-    check(copy_text(it.before, sizeof it.before, count > 7 ? words[7] : ""), "before");
+    read_said(&it, count - 6, words + 6);
     opening_text(&it, text);
     request = request_of(words[1], creds, &key, text, words[4]);
     digits = malloc(2 * (size_t)request.length + 1);

@@ -53,9 +53,16 @@ enum krbrelay_answer __wrap_krbrelay_opener_open(struct krbrelay_opener *handle,
 }
 
 /* Sessions of streams that the store has: keys are tom's, and can be read or not. */
-static const struct opened streams[] = { { .name = "one", .stream = "a" }, { .name = "two", .stream = "a", .before = "one" },
-                                         { .name = "three", .stream = "b" },
-                                         { .name = "four", .stream = "b", .before = "three" } };
+static const struct opened streams[] = {
+    { .name = "one", .stream = "a", .shard = SHARD },
+    { .name = "two", .stream = "a", .before = "one", .shard = SHARD },
+    { .name = "three", .stream = "b", .shard = SHARD },
+    { .name = "four", .stream = "b", .before = "three", .shard = SHARD },
+    { .name = "five", .stream = "c", .shard = SHARD + 1 },
+    { .name = "six", .stream = "d", .shard = SHARD + 1 },
+    { .name = "seven", .stream = "d", .before = "six", .shard = SHARD },
+    { .name = "eight", .stream = "e", .before = "five", .shard = SHARD },
+};
 enum { STREAMS = sizeof streams / sizeof *streams };
 static const char *unreadable = "";
 
@@ -267,14 +274,47 @@ static void test_before_unreadable(struct shard *shard, struct carrier *carrier,
     publish_again(shard, carrier, "two");
 }
 
-/* A receiver of another shard, in which its frames were written again, goes on with the session before: what is
- * known of it is compared. */
+/* A receiver of the version before, of another shard in which its frames were written again, goes on with the session
+ * before: what is known of it is compared. */
 static void test_before_elsewhere(struct shard *shard, struct carrier *carrier, sqlite3 *store)
 {
     change(store, "INSERT INTO session (name, next, closed, shard) VALUES ('three', 1, 0, 3), ('four', 1, 0, 3)");
     publish_early(shard, carrier, "four");
     change(store, "UPDATE session SET next = 2, closed = 1, shard = 4 WHERE name = 'three'");
     publish_again(shard, carrier, "four");
+}
+
+/* A session of another shard, whose frames somebody copied: they are nobody's here, and what the store has of it
+ * stays. */
+static void test_elsewhere(struct shard *shard, struct carrier *carrier, sqlite3 *store)
+{
+    uint64_t accepted = shard->counts.accepted, early = shard->counts.early;
+    unsigned long unknown = shard->counts.refused[0];
+    change(store, "INSERT INTO session (name, next, closed, shard) VALUES ('five', 1, 0, 4)");
+    publish_texts_as(carrier, "five", 1, 2);
+    publish_texts_as(carrier, "five", 1, 2);
+    take(shard);
+    check(shard->counts.refused[0] == unknown + 2, "its frames are counted as those without a line");
+    check(shard->counts.accepted == accepted && shard->counts.early == early, "and as nothing else");
+    check(told(store, "SELECT count(*) FROM effect WHERE session = 'five'") == 0, "no text takes effect");
+    check(told(store, "SELECT next * 10 + shard FROM session WHERE name = 'five'") == 14, "its row stays");
+}
+
+/* The session before one of this shard is of it too, though somebody copied its opening, of the version before, into
+ * another one. That of another stream isn't. */
+static void test_before_copied(struct shard *shard, struct carrier *carrier, sqlite3 *store)
+{
+    unsigned long unknown;
+    change(store, "INSERT INTO session (name, next, closed, shard)"
+                  " VALUES ('six', 2, 1, 4), ('seven', 1, 0, 3), ('eight', 1, 0, 3)");
+    publish_again(shard, carrier, "seven");
+    publish_early(shard, carrier, "eight");
+    change(store, "UPDATE session SET next = 2, closed = 1 WHERE name = 'five'");
+    publish_early(shard, carrier, "eight");
+    unknown = shard->counts.refused[0];
+    publish_texts_as(carrier, "five", 1, 2);
+    take(shard);
+    check(shard->counts.refused[0] == unknown + 1, "nor are its frames somebody's here");
 }
 
 /* Sessions of streams, without MIT's library: what the store has of them is above. */
@@ -288,6 +328,8 @@ static void test_streams(struct shard *shard, struct carrier *carrier, sqlite3 *
     shard->has_wrapped = 1;
     test_before_unreadable(shard, carrier, store);
     test_before_elsewhere(shard, carrier, store);
+    test_elsewhere(shard, carrier, store);
+    test_before_copied(shard, carrier, store);
     shard->kerberos = NULL;
 }
 

@@ -11,6 +11,7 @@ from test_effects import Ends, both_programs, compiled, texts
 # A cast isn't a name, and nor is what is in quotes.
 STATEMENT = "sql:INSERT INTO mine (session, number, part, text, again) VALUES (:session, :number, :part::int, :text, ':no')"
 MINE = "CREATE TABLE mine (id bigserial, session text, number bigint, part int, text bytea {}, again text)"
+WHILE_KILLED = 6_000    # texts: psql, which says when to kill, is as slow as some hundreds of them
 REFUSES = "CHECK (text != 'bad')"
 
 
@@ -59,9 +60,9 @@ def ends(programs, tmp_path, prefix, server):
 @pytest.mark.parametrize("of_object", [False, True], ids=["statement", "object"])
 def test_within_the_transaction_each_happens_once(ends, of_object, tries):
     ends.server.ask(MINE.format(""))
-    ends.put(texts(600))
+    ends.put(texts(WHILE_KILLED))
     rounds = ends.killed_over_and_over("--effect", compiled(ends) if of_object else STATEMENT, "--put-aside", tries)
-    assert ends.texts_of("mine") == texts(600) and rounds > 2
+    assert ends.texts_of("mine") == texts(WHILE_KILLED) and rounds > 2
     assert ends.server.ask("SELECT DISTINCT again FROM mine") == [["" if of_object else ":no"]]
     assert ends.texts_of("aside") == []
 

@@ -39,7 +39,7 @@ class Place(repro.Place):
         self.keytab, self.client = realm.path("sender.keytab"), realms.SENDER
         self.receiver_keytab, self.allowed = realm.path("receiver.keytab"), f"{folder}/allowed"
         self.allow(realms.SENDER)
-        self.env = realm.environment()
+        self.env, self.stores = realm.environment(), ("store",)
 
     def allow(self, *clients):
         self.write(self.allowed, [f"{it}@{realms.REALM}\n" for it in clients])
@@ -61,22 +61,31 @@ class Place(repro.Place):
     def delivered(self):
         """What was delivered of each stream, and of each session of the file."""
         found = {}
-        for name, text in self.ask("store", "SELECT CASE stream WHEN '' THEN session ELSE stream END,"
-                                            " text FROM effect ORDER BY id"):
+        for name, text in self.ask_stores("SELECT CASE stream WHEN '' THEN session ELSE stream END,"
+                                          " text FROM effect ORDER BY id"):
             found.setdefault(name, []).append(bytes(text).decode())
         return {name: found.get(name, []) for name in {*found, *self.case.wanted}}
 
+    def use_stores(self, count):
+        """Each of so many shards has a store of its own."""
+        self.store = f"sqlite:{self.folder}/store.%.db"
+        self.stores = tuple(f"store.{shard}" for shard in range(count))
+
+    def ask_stores(self, sql):
+        return [row for store in self.stores for row in self.ask(store, sql)]
+
     def opened(self):
-        return [name for name, in self.ask("store", "SELECT name FROM opened")]
+        return [name for name, in self.ask_stores("SELECT name FROM opened")]
 
     def refused(self, process, answer):
         return loglines.has(self.log(process), "opening_refused", answer=answer)
 
     def make(self, kind, *more, keytab=None, client=None, service=realms.SERVICE, etype=None,
-             realm=None, stream="evil"):
-        """An opening that is made for the case: its name, and the frame."""
+             realm=None, stream="evil", shard="0"):
+        """An opening that is made for the case: its name, and the frame. Without a shard, '-', it is of the
+        version before."""
         words = [f"{self.programs}/openings", kind, keytab or self.keytab, client or self.client,
-                 service, str(etype or self.etype), stream, *more]
+                 service, str(etype or self.etype), stream, shard, *more]
         done = subprocess.run(words, check=True, timeout=errors.LIMIT, text=True,
                               stdout=subprocess.PIPE,
                               env=(realm or self.realm).environment() | {
@@ -85,12 +94,19 @@ class Place(repro.Place):
         name, digits = done.stdout.split()
         return name, bytes.fromhex(digits)
 
-    def insert(self, frames, first=1):
-        """Puts frames into the carrier, at these offsets."""
+    def insert(self, frames, first=1, shard=0):
+        """Puts frames into a shard of the carrier, at these offsets."""
         with sqlite3.connect(f"{self.folder}/carrier.db") as file:
             file.executemany("INSERT INTO carried (offset, shard, session, frame)"
-                             " VALUES (?, 0, ?, ?)",
-                             [(first + at, *it) for at, it in enumerate(frames)])
+                             " VALUES (?, ?, ?, ?)",
+                             [(first + at, shard, *it) for at, it in enumerate(frames)])
+        file.close()
+
+    def copy_frames(self, shard):
+        """All frames and openings of shard 0 once more, in another shard."""
+        with sqlite3.connect(f"{self.folder}/carrier.db", timeout=errors.LIMIT) as file:
+            file.execute("INSERT INTO carried (shard, session, frame) SELECT ?, session, frame FROM carried"
+                         " WHERE shard = 0 ORDER BY offset", (shard,))
         file.close()
 
     def keys(self, *names):
@@ -111,11 +127,24 @@ def flipped(place, at):
     return name, bytes(changed)
 
 
-def with_text(place, change):
+def with_text(place, change, **given):
     """The text after the AP-REQ is changed."""
-    name, frame = place.make("good")
+    name, frame = place.make("good", **given)
     at = frame.rindex(b"krbrelay session")
     return name, frame[:at] + change(frame[at:])
+
+
+def with_words(place, words):
+    """Other words follow the one for the session before."""
+    return with_text(place, lambda it: b" ".join([*it.split()[:6], *words]))
+
+
+def of_other_shard(place):
+    return place.make("good", shard="1")
+
+
+def of_old_form(place, change):
+    return with_text(place, change, shard="-")
 
 
 def changed(place, change):
@@ -162,18 +191,45 @@ def cut_to(frame, part):
 
 
 TICKET, AUTHENTICATOR = 200, 600        # places in the ciphers of the AP-REQ
+HISTORY = b"5a" * 20                    # of nothing
 HOSTILE = {
     "a bit of the ticket": (functools.partial(flipped, at=TICKET), "OPENING_CHANGED"),
     "a bit of the authenticator": (functools.partial(flipped, at=AUTHENTICATOR), "OPENING_CHANGED"),
     "a bit of its length": (functools.partial(flipped, at=2), "OPENING_MALFORMED"),
     "a bit of the first byte": (functools.partial(flipped, at=0), None),
-    "a bit of the stream's name": (functools.partial(flipped, at=-4), "OPENING_CHANGED"),
+    "a bit of the stream's name": (functools.partial(with_text, change=lambda it: it.replace(
+        b" evil ", b" ewil ")), "OPENING_CHANGED"),
     "another name in the text": (functools.partial(with_text, change=lambda it: it.replace(
         it.split()[3], NAME.encode())), "OPENING_NAME"),
     "another protocol's text": (functools.partial(with_text, change=lambda it: it.replace(
-        b"session 1", b"session 2")), "OPENING_MALFORMED"),
-    "a session before it": (functools.partial(with_text, change=lambda it: it[:-1] + b"before"),
-                            "OPENING_CHANGED"),
+        b"session 3", b"session 4")), "OPENING_MALFORMED"),
+    "a session before it": (functools.partial(with_text, change=lambda it: it.replace(
+        b" - ", b" before ")), "OPENING_CHANGED"),
+    "another shard's": (of_other_shard, "OPENING_ELSEWHERE"),
+    "another shard's, whose text has this one": (functools.partial(
+        with_text, change=lambda it: it[:-1] + b"0", shard="1"), "OPENING_CHANGED"),
+    "the last shard's": (functools.partial(with_keytab, shard="4095"), "OPENING_ELSEWHERE"),
+    "a shard that there isn't": (functools.partial(with_words, words=(b"4096",)), "OPENING_MALFORMED"),
+    "a shard of thirty digits": (functools.partial(with_words, words=(b"1" * 30,)), "OPENING_MALFORMED"),
+    "a zero before the shard": (functools.partial(with_words, words=(b"00",)), "OPENING_MALFORMED"),
+    "a shard below the first": (functools.partial(with_words, words=(b"-1",)), "OPENING_MALFORMED"),
+    "a shard that is no number": (functools.partial(with_words, words=(b"a",)), "OPENING_MALFORMED"),
+    "no shard in the third form": (functools.partial(with_words, words=()), "OPENING_MALFORMED"),
+    "nothing in the shard's place": (functools.partial(with_words, words=(b"",)), "OPENING_MALFORMED"),
+    "two shards": (functools.partial(with_words, words=(b"0", b"0")), "OPENING_MALFORMED"),
+    "a space after the shard": (functools.partial(with_words, words=(b"0", b"")), "OPENING_MALFORMED"),
+    "a history of no session before": (functools.partial(with_words, words=(b"0", HISTORY)),
+                                       "OPENING_MALFORMED"),
+    "the first form with a shard": (functools.partial(with_text, change=lambda it: it.replace(
+        b"session 3", b"session 1")), "OPENING_MALFORMED"),
+    "the second form with a shard": (functools.partial(with_text, change=lambda it: it.replace(
+        b"session 3", b"session 2")), "OPENING_MALFORMED"),
+    "the first form as the third": (functools.partial(of_old_form, change=lambda it: it.replace(
+        b"session 1", b"session 3")), "OPENING_MALFORMED"),
+    "the first form, to which its shard was added": (functools.partial(of_old_form, change=lambda it: it.replace(
+        b"session 1", b"session 3") + b" 0"), "OPENING_CHANGED"),
+    "the third form, of which its shard was cut off": (functools.partial(with_text, change=lambda it: it.replace(
+        b"session 3", b"session 1")[:-2]), "OPENING_CHANGED"),
     "two spaces in the text": (functools.partial(with_text, change=lambda it: it.replace(
         b" evil", b"  evil")), "OPENING_MALFORMED"),
     "no text": (functools.partial(with_text, change=lambda it: b""), "OPENING_MALFORMED"),
@@ -494,6 +550,102 @@ def before_its_turn(place):
     place.require(loglines.has(place.log(receiver), "frame_early", before=first), "it isn't said")
 
 
+# ---- openings and frames that somebody copies into another shard
+
+def has_read(place, process, shard):
+    """Whether a receiver of this shard alone has read all of it."""
+    where = f"WHERE shard = {shard}"
+    reached = place.ask_stores(f"SELECT offset FROM shard {where}")
+    return process.poll() is None and reached == place.ask("carrier", f"SELECT max(offset) FROM carried {where}")
+
+
+def send_copied(place, other, count):
+    """The first so many texts of the stream are sent and copied into another shard, whose receiver reads them: none of
+    the new ones takes effect there."""
+    before = place.delivered()
+    place.put(streams_of(place, count, count - 20))
+    place.run("sender", "--drain")
+    place.copy_frames(1)
+    place.require(place.wait(lambda: has_read(place, other, 1), 8), "the copies aren't read")
+    place.require(place.delivered() == before, f"in another shard: {place.delivered()}")
+
+
+def copied_elsewhere(place):
+    """A young opening and its frames are copied into another shard, whose receiver reads them first; later frames are
+    too, and all of it again while the stream goes on in its own shard."""
+    place.put([])
+    other = place.start("receiver", shards="1")
+    send_copied(place, other, 20)
+    place.require(place.refused(other, "OPENING_ELSEWHERE") and not place.opened(), "the copy isn't refused")
+    receiver = place.start("receiver")
+    place.require(place.wait(lambda: place.is_delivered({"orders": 20}), 5), "it doesn't begin in its own")
+    place.end(receiver)
+    send_copied(place, other, 40)
+    place.start("receiver")
+    place.start("sender", life="1")
+    for turn in range(2, 4):
+        place.put(streams_of(place, 20 * (turn + 1), 20 * turn))
+        time.sleep(1.1)
+        place.copy_frames(1)
+    place.await_delivered()
+    place.require(place.wait(lambda: has_read(place, other, 1), 5), "the copies aren't read")
+    receipts.await_no_frames(place)
+    for table in ("opened", "session"):
+        shards = place.ask_stores(f"SELECT DISTINCT shard FROM {table}")
+        place.require(shards == [(0,)], f"{table}: sessions of shards {shards}")
+    place.await_delivered()
+
+
+def copied_to_other_store(place):
+    """The same where each shard has a store of its own."""
+    place.use_stores(2)
+    copied_elsewhere(place)
+
+
+def older_openings(place):
+    """Openings of the version before don't say their shard: each is taken where it comes first, and no more in
+    another shard."""
+    first, second = place.make("good", stream="first", shard="-"), place.make("good", stream="second", shard="-")
+    after = place.make("good", first[0], HISTORY.decode(), stream="first", shard="-")
+    place.require(b"krbrelay session 1 " in first[1] and b"krbrelay session 2 " in after[1], "other forms")
+    place.put([])
+    place.insert([first, after], 1)
+    place.insert([second], 3, shard=1)
+    receiver = place.start("receiver", shards="0,1")
+    wanted = {first[0]: 0, after[0]: 0, second[0]: 1}
+    found = place.wait(lambda: dict(place.ask("store", "SELECT name, shard FROM opened")) == wanted, 5)
+    place.require(found, f"opened: {place.ask('store', 'SELECT name, shard FROM opened')}")
+    place.insert([first, after], 4, shard=1)
+    place.insert([second], 6)
+    place.require(place.wait(lambda: len(loglines.find(place.log(receiver), "opening_refused",
+                                                       answer="OPENING_ELSEWHERE")) == 3, 5), "copies are taken")
+    place.require(dict(place.ask("store", "SELECT name, shard FROM opened")) == wanted, "they are moved")
+
+
+def begun_elsewhere(place):
+    """A sender of the version before began the stream, and somebody's copy was read first, by another shard. Its
+    sender is upgraded: the session goes on in its own shard."""
+    place.put(streams_of(place, 10))
+    place.run("sender", "--drain")
+    receiver = place.start("receiver")
+    place.require(place.wait(lambda: place.is_delivered({"orders": 10}), 8), "nothing is delivered")
+    place.end(receiver)
+    with sqlite3.connect(f"{place.folder}/store.db") as file:
+        for table in ("opened", "session"):
+            file.execute(f"UPDATE {table} SET shard = 1")
+    file.close()
+    with sqlite3.connect(f"{place.folder}/carrier.db") as file:
+        file.execute("DELETE FROM receipt")     # so that the first probe has the opening
+    file.close()
+    place.put(streams_of(place, 20, 10))
+    receiver = place.start("receiver")
+    place.start("sender")
+    place.require(place.wait(lambda: loglines.has(place.log(receiver), "session_unknown"), 5), "it is known")
+    place.await_delivered()
+    rows = [place.ask("store", f"SELECT shard FROM {table}") for table in ("opened", "session")]
+    place.require(rows == [[(0,)], [(0,)]], f"shards: {rows}")
+
+
 # ---- keys that can't be read for a while, and outboxes that are restored
 
 def deliver_first(place):
@@ -519,6 +671,28 @@ def keytab_moment(place):
     place.put(streams_of(place, 4, 2))
     place.await_delivered()
     place.require(place.count("outbox", "stopped") == 0, "it is stopped still")
+
+
+def keytab_away(place):
+    """The sender's keytab is away when a stream's first text comes, and when a session is old: the stream waits, the
+    session goes on, and texts of other sessions are sealed."""
+    place.keytab = shutil.copy(place.keytab, f"{place.folder}/sender.keytab")
+    place.put([("orders", b"orders 0"), ("tom", b"tom 0")])
+    place.start("sender", life="1")
+    place.start("receiver")
+    place.require(place.wait(lambda: place.is_delivered({"orders": 1, "tom": 1}), 8), "nothing is delivered")
+    time.sleep(1.1)
+    os.rename(place.keytab, place.keytab + ".away")
+    place.put([("bills", b"bills 0"), ("orders", b"orders 1"), ("tom", b"tom 1"), ("bills", b"bills 1")])
+    place.require(place.wait(lambda: place.is_delivered({"orders": 2, "tom": 2}), 5), "others wait for the keytab")
+    place.require(not place.delivered()["bills"] and place.ask("outbox", "SELECT session FROM stopped") == [("bills",)],
+                  "the stream's first text isn't told to wait")
+    os.rename(place.keytab + ".away", place.keytab)
+    place.put([("orders", b"orders 2")])
+    place.await_delivered()
+    place.require(place.count("outbox", "stopped") == 0, "it is stopped still")
+    opened = place.ask("store", "SELECT count(*) FROM opened WHERE stream = 'orders'")
+    place.require(opened == [(2,)], f"sessions of orders: {opened}")
 
 
 def wrapping_key_later(place):
@@ -899,7 +1073,13 @@ CASES = (
     Case(many_streams, "5,000 streams, of a text each", {}, 40),
     Case(before_its_turn, "a session's frames stand before the close of the one before it",
          {"orders": 20}, 20),
+    Case(copied_elsewhere, "a young opening and its frames are copied into another shard", {"orders": 80}, 25),
+    Case(copied_to_other_store, "the same, with a store for each shard", {"orders": 80}, 25),
+    Case(older_openings, "openings of the version before, and copies of them in another shard", {}, 15),
+    Case(begun_elsewhere, "a session of the version before has begun in another shard", {"orders": 20}, 20),
     Case(keytab_moment, "the sender's keytab is away for a second", {"orders": 4}, 25),
+    Case(keytab_away, "the sender's keytab is away when sessions have to begin",
+         {"orders": 3, "bills": 2, "tom": 2}, 30, (repro.TOM,)),
     Case(wrapping_key_later, "the sender's keytab lacks a key for a while", {"orders": 3}, 30),
     Case(closed_anew, "a restored outbox closes a session once more", {"orders": 10}, 40),
     Case(restored_streams, "an outbox of streams is restored while both ends run", {"orders": 0, "bills": 0},
