@@ -11,7 +11,8 @@ from lib.plants.copies import Copy
 
 Told = tuple[bool, str]
 WRAPS = ["-Wl,--wrap=malloc", "-Wl,--wrap=realloc", "-Wl,--wrap=free"]
-LINKED = {"calls": ["-Wl,--wrap=clock_gettime", "-Wl,--wrap=getrandom"], "residue": WRAPS[2:]}
+LINKED = {"calls": ["-Wl,--wrap=clock_gettime", "-Wl,--wrap=getrandom"], "residue": WRAPS[2:],
+          "taking": WRAPS[:2]}
 OF_A_TEST = 60      # seconds, as `rt ci` gives each test of a crate
 OF_32_BITS = ["-m32", "-ffreestanding", "-nostdlib", "-static", "-fno-pic", "-no-pie", "-fno-stack-protector"]
 
