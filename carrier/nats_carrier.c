@@ -41,18 +41,48 @@ static int is_closed(struct carrier *base)
 
 /* ---- */
 
-/* Ends the connection, and all that hears over it. */
+/* What has come and wasn't fetched. What comes meanwhile isn't waited for. */
+static void drop_pending(natsSubscription *reader)
+{
+    natsMsg *message = NULL;
+    int count = 0, bytes;
+    if (natsSubscription_GetPending(reader, &count, &bytes) != NATS_OK)
+        return;
+    for (; count > 0 && natsSubscription_NextMsg(&message, reader, 0) == NATS_OK; count--)
+        natsMsg_Destroy(message);
+}
+
+void nats_leave(struct nats_carrier *c, natsSubscription **it)
+{
+    natsSubscription **place = &c->left[c->left_count % NATS_LEFT];
+    if (*it == NULL)
+        return;
+    natsSubscription_Destroy(*place);
+    *place = *it;
+    *it = NULL;
+    c->left_count++;
+    drop_pending(*place);
+    (void)natsSubscription_Unsubscribe(*place); /* without a connection there is nothing to end */
+}
+
+static void destroy(natsSubscription **it)
+{
+    natsSubscription_Destroy(*it);
+    *it = NULL;
+}
+
+/* Ends the connection, and then, when its thread has ended, what heard over it. */
 static void end_connection(struct nats_carrier *c)
 {
+    int i;
     nats_stop_reading(c);
-    natsSubscription_Destroy(c->replies);
-    natsSubscription_Destroy(c->answers);
-    natsSubscription_Destroy(c->receipts);
-    c->replies = c->answers = c->receipts = NULL;
     natsConnection_Destroy(c->connection);
     c->connection = NULL;
-    natsSubscription_Destroy(c->left); /* once the connection's thread has ended */
-    c->left = NULL;
+    destroy(&c->replies);
+    destroy(&c->answers);
+    destroy(&c->receipts);
+    for (i = 0; i < NATS_LEFT; i++)
+        destroy(&c->left[i]);
 }
 
 static void close_it(struct carrier *base)

@@ -11,7 +11,7 @@
 #include <krbrelay.h>
 #include <nats/nats.h>
 
-enum { NATS_HELD = 4096, NATS_TEXT = 512, NATS_SUBJECT = 160, NATS_NAME = 32 };
+enum { NATS_HELD = 4096, NATS_LEFT = 8, NATS_TEXT = 512, NATS_SUBJECT = 160, NATS_NAME = 32 };
 
 /* Streams have the numbers of their shards; that of receipts has this one. */
 enum { NATS_RECEIPTS = CARRIER_SHARDS };
@@ -46,12 +46,13 @@ struct nats_carrier {
     uint64_t pending;                   /* frames after the last, when it was delivered */
     uint64_t heard;                     /* when the consumer said something last, in milliseconds */
     natsSubscription *reader;
-    natsSubscription *left;         /* the one before: nothing comes for it any more */
     natsMsg *held[NATS_HELD];
     int held_count;
     natsSubscription *receipts;         /* all that are published, from the first look on */
     struct krbrelay_pause first;        /* a receiver's wait so long for their stream at first */
     int has_told_replicas;              /* it was told that it has too few replicas */
+    natsSubscription *left[NATS_LEFT];  /* those that were left last: nothing comes for them any more */
+    unsigned left_count;                /* so many were left */
 };
 
 /* Logs a fault of a call; CARRIER_FAULT. */
@@ -59,6 +60,10 @@ int nats_report(const char *what, natsStatus status);
 
 /* Subscribes to what is said to this carrier under a word of its inbox, such as "*.frames". */
 natsStatus nats_hear(struct nats_carrier *c, const char *word, natsSubscription **subscription);
+
+/* Ends a subscription, and drops what it heard. A thread of libnats 3.4 may have looked it up and use it still, so it is
+ * destroyed when NATS_LEFT more were left, or the connection has ended. */
+void nats_leave(struct nats_carrier *c, natsSubscription **it);
 
 /* Where the wall clock was set back, a wait of libnats's threads may last for as long: another connection is begun. It is
  * called whenever the caller asks for something. */

@@ -26,34 +26,11 @@ static void let_go(struct nats_carrier *c)
         natsMsg_Destroy(c->held[--c->held_count]);
 }
 
-/* What has come and wasn't fetched. What comes meanwhile isn't waited for. */
-static void drop_pending(natsSubscription *reader)
-{
-    natsMsg *message = NULL;
-    int count = 0, bytes;
-    if (natsSubscription_GetPending(reader, &count, &bytes) != NATS_OK)
-        return;
-    for (; count > 0 && natsSubscription_NextMsg(&message, reader, 0) == NATS_OK; count--)
-        natsMsg_Destroy(message);
-}
-
-/* Ends the consumer, which servers forget then. What was fetched stays held. The thread of libnats 3.4 may have looked
- * the subscription up and use it still, so it is destroyed only when the next one ends. */
-static void leave(struct nats_carrier *c)
-{
-    if (c->reader == NULL)
-        return;
-    natsSubscription_Destroy(c->left);
-    c->left = c->reader;
-    c->reader = NULL;
-    drop_pending(c->left);
-    (void)natsSubscription_Unsubscribe(c->left); /* without a connection there is nothing to end */
-}
-
+/* Ends the consumer, which servers forget then. */
 void nats_stop_reading(struct nats_carrier *c)
 {
     let_go(c);
-    leave(c);
+    nats_leave(c, &c->reader);
 }
 
 void nats_seek(struct carrier *base, unsigned shard, uint64_t offset)
@@ -127,7 +104,7 @@ static int begin_reading(struct nats_carrier *c)
     nats_name_stream(c->shard, name);
     status = make_consumer(c, name);
     if (status != NATS_OK) {
-        leave(c);
+        nats_leave(c, &c->reader);
         return nats_report(name, status);
     }
     c->delivered = 0;
@@ -222,7 +199,7 @@ int nats_fetch(struct carrier *base, struct carried *list, size_t room, int mill
         count += has_frame;
     }
     if (status != NATS_OK && status != NATS_TIMEOUT) {
-        leave(c);
+        nats_leave(c, &c->reader); /* what was fetched stays held */
         (void)nats_report("a reader begins again after what it had", status); /* it is no fault of this fetch */
     }
     return count;

@@ -79,7 +79,7 @@ static natsStatus read_kept(struct nats_carrier *c, carrier_receipt *take, void 
         }
         natsMsg_Destroy(message);
     }
-    natsSubscription_Destroy(reader);
+    nats_leave(c, &reader);
     return status;
 }
 

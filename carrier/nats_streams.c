@@ -263,12 +263,12 @@ static natsStatus try_consumer(struct nats_carrier *c, const char *stream, const
 }
 
 /* Ends those that were tried but for one, if one is there. Servers forget a consumer to which nobody listens. */
-static void end_others(natsSubscription *const *tried, int count, int kept)
+static void end_others(struct nats_carrier *c, natsSubscription **tried, int count, int kept)
 {
     int i;
     for (i = 0; i < count; i++)
         if (i != kept)
-            natsSubscription_Destroy(tried[i]);
+            nats_leave(c, &tried[i]);
 }
 
 natsStatus nats_consume(struct nats_carrier *c, const char *stream, const char *how, natsSubscription **reader)
@@ -288,7 +288,7 @@ natsStatus nats_consume(struct nats_carrier *c, const char *stream, const char *
     if (status == NATS_OK && nats_says(answer, "\"error\":"))
         status = NATS_ERR;
     is_there = status == NATS_OK && number - first < (unsigned long)count;
-    end_others(tried, count, is_there ? (int)(number - first) : -1);
+    end_others(c, tried, count, is_there ? (int)(number - first) : -1);
     *reader = is_there ? tried[number - first] : NULL;
     natsMsg_Destroy(answer);
     return is_there || status != NATS_OK ? status : NATS_ERR;
