@@ -14,6 +14,6 @@ mod safe;
 mod unsealed;
 
 pub use four::{Four, eight_codes};
-pub use many::{check_size, frames_of, seal_many};
+pub use many::{are_many, check_size, frames_of, seal_many};
 pub use many_error::ManyError;
 pub use unsealed::Unsealed;

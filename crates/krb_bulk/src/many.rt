@@ -1,6 +1,6 @@
 //! Sealing of several messages.
 
-ghost use Rattle.std.specs.Prelude.{◌≡◌, ◌≤◌, ◌+◌, [], length, vec_len, true, MatchResult, IfOk, OnOk, OnErr};
+ghost use Rattle.std.specs.Prelude.{◌≡◌, ◌≤◌, ◌↔◌, ◌+◌, [], length, IsTrue, vec_len, true, MatchResult, IfOk, OnOk, OnErr};
 ghost use Rattle.krb_etype.specs.CodeKey.{code_key};
 ghost use Rattle.krb_keys.specs.BatchMac.{HoldsBatchKey};
 ghost use Rattle.krb_seal.specs.Mode.{purpose_of};
@@ -19,6 +19,13 @@ use krb_base::{LAST_NUMBER, USER_DATA_LIMIT};
 use krb_keys::BatchMac;
 use krb_seal::{AesSealer, Mode, SealError, Sealer};
 use std::alloc::{AllocError, Global};
+
+/// Whether so many messages are made side by side.
+pub fn are_many(count: usize) -> bool
+    ensures { IsTrue result ↔ (8 ≤ count) }
+{
+    count >= 8
+}
 
 /// Whether a message with so many bytes of user data can be sealed at a number, by a sealer that is wiped or not.
 pub fn check_size(is_wiped: bool, number: u64, len: usize) -> Result<(), SealError>
@@ -119,17 +126,16 @@ impl Bulk<'_, '_, '_> {
         Ok(())
     }
 
-    /// The same, under a key for eight codes at a time that is overwritten then.
-    fn put_with_mac(&self, alloc: Global, frames: &mut Vec<Vec<u8>>) -> Result<(), AllocError>
+    /// The same, if a key for eight codes at a time is ready.
+    fn put_side_by_side(&self, alloc: Global, frames: &mut Vec<Vec<u8>>) -> Result<(), AllocError>
         requires ready { IsReady self.now }
         requires none { vec_len frames.old ≡ 0 }
         ensures { OnOk result (SealsFirst self.now frames.new.items) }
     {
-        let mut mac = self.parts.keys.batch_mac();
-        let put = self.put_eights(alloc, &mac, frames);
-        mac.wipe();
-        mac.spend();
-        put
+        match self.parts.keys.batch_mac() {
+            Some(mac) => self.put_eights(alloc, mac, frames),
+            None => Ok(()),
+        }
     }
 
     /// Puts the frames of four messages, if they are KRB-PRIV and there are so many.
@@ -167,9 +173,7 @@ impl Bulk<'_, '_, '_> {
             frames.items) }
     {
         let mut frames = Vec::with_capacity(alloc, self.messages.len())?;
-        if self.messages.len() >= 8 {
-            self.put_with_mac(alloc, &mut frames)?;
-        }
+        self.put_side_by_side(alloc, &mut frames)?;
         self.put_private(alloc, &mut frames)?;
         self.put_rest(alloc, &mut frames)?;
         Ok(frames)
@@ -178,7 +182,8 @@ impl Bulk<'_, '_, '_> {
 
 /// The frames that calls of [`Sealer::seal`] give one after another, each of a message and at the
 /// next sequence number. The sealer stays as it is, so whoever hands these frames on passes over
-/// their numbers ([`AesSealer::pass`]).
+/// their numbers ([`AesSealer::pass`]). Eight at a time are made side by side where the sealer is
+/// prepared ([`AesSealer::prepare_batch`]).
 ///
 /// Whether all can be sealed is looked at before any memory is asked for.
 pub fn frames_of<E>(
@@ -218,6 +223,9 @@ pub fn seal_many<E>(
     ensures unchanged { OnErr result (sealer.new ≡ sealer.old) }
     ensures answer { AnswersMany sealer.old messages.now result }
 {
+    if are_many(messages.len()) {
+        sealer.prepare_batch();
+    }
     let frames = frames_of(alloc, sealer, messages)?;
     sealer.pass(messages.len() as u64);
     Ok(frames)

@@ -15,7 +15,7 @@ use crate::checks::{check, forget, put_unsealed};
 use crate::frames::{have_room, put_frames};
 use crate::many_fault::ManyFault;
 use crate::unsealed::KrbUnsealed;
-use krb_bulk::{ManyError, Unsealed, frames_of};
+use krb_bulk::{ManyError, Unsealed, are_many, frames_of};
 use krb_der::Moment;
 use krb_seal::Refusal;
 use krb_structs::{AnySealer, Fault, Peer};
@@ -125,6 +125,9 @@ pub fn seal_many_into(
     ensures sizes_kept { OnErr result (sizes.new ≡ sizes.old) }
     ensures answer { ManyAnswer sealer.old messages.now (length out.old) result }
 {
+    if are_many(messages.len()) {
+        sealer.prepare_batch();
+    }
     put_sealed(alloc, sealer, messages, out, sizes)?;
     sealer.pass(messages.len() as u64);
     Ok(())
@@ -147,6 +150,9 @@ pub fn peer_seal_many_into(
     ensures sizes_kept { OnErr result (sizes.new ≡ sizes.old) }
     ensures answer { ManyAnswer peer.old.sealer messages.now (length out.old) result }
 {
+    if are_many(messages.len()) {
+        peer.prepare_batch();
+    }
     put_sealed(alloc, peer.any_sealer(), messages, out, sizes)?;
     peer.pass(messages.len() as u64);
     Ok(())

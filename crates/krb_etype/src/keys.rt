@@ -1,6 +1,6 @@
 //! A session key with the keys derived from it.
 
-ghost use Rattle.std.specs.Prelude.{◌≡◌, ◌↔◌, ◌≤◌, ◌+◌, ◌++◌, IsTrue, false, length};
+ghost use Rattle.std.specs.Prelude.{◌≡◌, ◌≤◌, ◌+◌, ◌++◌, IfSome, false, length};
 ghost use Rattle.krb_aes.specs.Keys.{expanded_key};
 ghost use Rattle.krb_aes.specs.Stealing.{cts};
 ghost use Rattle.krb_base.specs.Bytes.{AreBytes};
@@ -19,7 +19,7 @@ use crate::etype::CODE_SIZE;
 use crate::private_keys::{End, PrivateKeys};
 use krb_aes::CipherKey;
 use krb_base::Bytes;
-use krb_keys::{BatchMac, MacKey, mac_equal};
+use krb_keys::{BatchMac, MacKey};
 use std::marker::Model;
 
 /// What derived keys are for.
@@ -47,6 +47,14 @@ fn end_private(keys: Option<PrivateKeys>) {
     }
 }
 
+/// The same of a key for eight codes at a time.
+fn end_batch(key: Option<BatchMac>) {
+    if let Some(mut held) = key {
+        held.wipe();
+        held.spend();
+    }
+}
+
 /// A session key with the keys derived from it that its end needs for its purpose, each ready for use
 /// (RFC 3961 section 5.3).
 ///
@@ -60,6 +68,8 @@ pub struct Keys {
     checksum: Option<MacKey>,
     // Ki and Ke, for the encrypted part of KRB-PRIV, once that purpose was asked for.
     private: Option<PrivateKeys>,
+    // The key of the codes of the present purpose, for eight texts at a time, once it was asked for.
+    batch: Option<BatchMac>,
     wiped: bool,
 }
 
@@ -94,6 +104,7 @@ impl Keys {
             purpose,
             checksum,
             private,
+            batch: None,
             wiped: false,
         }
     }
@@ -102,6 +113,9 @@ impl Keys {
     pub fn set_purpose(&mut self, purpose: Purpose)
         ensures { self.new ≡ keys_for self.old purpose }
     {
+        if self.purpose != purpose {
+            end_batch(self.batch.take());
+        }
         self.purpose = purpose;
         if self.wiped {
             return;
@@ -138,6 +152,9 @@ impl Keys {
         if let Some(keys) = &mut self.private {
             keys.wipe();
         }
+        if let Some(key) = &mut self.batch {
+            key.wipe();
+        }
         self.wiped = true;
     }
 
@@ -149,12 +166,14 @@ impl Keys {
             purpose: _,
             checksum,
             private,
+            batch,
             wiped: _,
         } = self;
         base.wipe();
         base.spend();
         end_checksum(checksum);
         end_private(private);
+        end_batch(batch);
     }
 
     /// The checksum of KRB-SAFE over these parts, one after another.
@@ -190,15 +209,6 @@ impl Keys {
         self.private().tag(text)
     }
 
-    /// Whether the code is that of a text.
-    pub fn is_tag(&self, tag: &[u8; CODE_SIZE], text: &[u8]) -> bool
-        requires live { self.now.wiped ≡ false }
-        requires purpose { self.now.purpose ≡ Encryption }
-        ensures { IsTrue result ↔ (tag.now ≡ tag_of self.now.key text.now) }
-    {
-        mac_equal(tag, &self.tag(text))
-    }
-
     /// Enciphers a text in place.
     pub fn encipher(&self, text: &mut [u8])
         requires live { self.now.wiped ≡ false }
@@ -227,16 +237,28 @@ impl Keys {
         self.private().encipher_four(a, b, c, d);
     }
 
-    /// The key of the codes that its purpose asks for, ready for eight messages at a time. It is derived
-    /// anew, so that what seals one message at a time doesn't pay for it.
-    pub fn batch_mac(&self) -> BatchMac
-        requires { self.now.wiped ≡ false }
-        ensures { HoldsBatchKey result (code_key self.now.purpose self.now.key) }
+    /// Makes the key of the codes that its purpose asks for ready for eight texts at a time, unless it is.
+    /// So what makes one code at a time doesn't pay for it.
+    pub fn prepare_batch(&mut self)
+        ensures { self.new ≡ self.old }
     {
-        match self.purpose {
+        if self.wiped || self.batch.is_some() {
+            return;
+        }
+        let key = match self.purpose {
             Purpose::Checksum => checksum_batch(&self.base),
             Purpose::Encryption => integrity_batch(&self.base),
-        }
+        };
+        end_batch(self.batch.replace(key));
+    }
+
+    /// That key, if it was made ready.
+    pub fn batch_mac(&self) -> Option<&BatchMac>
+        requires { self.now.wiped ≡ false }
+        ensures { IfSome result (λ mac.
+            HoldsBatchKey mac.now (code_key self.now.purpose self.now.key)) }
+    {
+        self.batch.as_ref()
     }
 
     /// Deciphers a text in place.

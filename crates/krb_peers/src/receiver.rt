@@ -120,6 +120,13 @@ impl Receiver {
         &self.opener
     }
 
+    /// Makes the key of its frames' codes ready for eight at a time, as [`Opener::prepare_batch`] does.
+    pub fn prepare_batch(&mut self)
+        ensures { self.new ≡ self.old }
+    {
+        self.opener.prepare_batch();
+    }
+
     /// Takes a frame at the timestamp `now`: what it carries, or the refusal of the first check
     /// that it fails.
     ///

@@ -152,6 +152,14 @@ impl<E> AesSealer<E> {
         frame_size(self.etype, session.mode, body, len)
     }
 
+    /// Makes the key of its codes ready for eight messages at a time, for what seals several with its
+    /// [`AesSealer::parts`]. What seals one at a time doesn't need it.
+    pub fn prepare_batch(&mut self)
+        ensures { self.new ≡ self.old }
+    {
+        self.keys.prepare_batch();
+    }
+
     /// What it seals with.
     pub fn parts(&self) -> SealerParts<'_>
         ensures etype { number_of result.etype ≡ self.now.etype }

@@ -147,14 +147,22 @@ impl Opener {
         Opening::new(self.etype, &self.keys, &self.expect).covered(alloc, frame)
     }
 
-    /// The key of its frames' codes, ready for eight at a time. There is none once the opener is wiped.
-    pub fn batch_mac(&self) -> Option<BatchMac>
-        ensures { IfSome result (λ mac. HoldsBatchKey mac (code_key_of self.now)) }
+    /// Makes the key of its frames' codes ready for eight at a time. What opens one at a time doesn't
+    /// need it.
+    pub fn prepare_batch(&mut self)
+        ensures { self.new ≡ self.old }
+    {
+        self.keys.prepare_batch();
+    }
+
+    /// That key, if it was made ready. There is none once the opener is wiped.
+    pub fn batch_mac(&self) -> Option<&BatchMac>
+        ensures { IfSome result (λ mac. HoldsBatchKey mac.now (code_key_of self.now)) }
     {
         if self.keys.is_wiped() {
             return None;
         }
-        Some(self.keys.batch_mac())
+        self.keys.batch_mac()
     }
 
     /// As [`unseal_telling`](Opener::unseal_telling), by a code that was computed before. If none is given,

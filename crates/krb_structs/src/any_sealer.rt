@@ -77,6 +77,13 @@ impl AnySealer {
         }
     }
 
+    /// Makes the key of its codes ready for eight messages at a time, as `AesSealer::prepare_batch` does.
+    pub fn prepare_batch(&mut self)
+        ensures { self.new ≡ self.old }
+    {
+        self.sealer.prepare_batch();
+    }
+
     /// The sealer that it holds, for what seals several messages in one call.
     pub fn session_sealer(&self) -> &SessionSealer
         ensures { result.now ≡ self.now }

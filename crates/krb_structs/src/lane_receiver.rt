@@ -94,6 +94,13 @@ impl LaneReceiver {
         self.receiver.opener()
     }
 
+    /// Makes the key of its frames' codes ready for eight at a time, as [`Opener::prepare_batch`] does.
+    pub fn prepare_batch(&mut self)
+        ensures { self.new ≡ self.old }
+    {
+        self.receiver.prepare_batch();
+    }
+
     /// Takes a frame at a moment, and writes the bytes of its record after the first: answers the
     /// record's kind and their number. Each fault leaves all as it was. The user data's block is
     /// overwritten before it is freed.

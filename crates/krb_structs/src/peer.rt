@@ -183,6 +183,13 @@ impl Peer {
         self.sealer.seal(alloc, user, at, confounder, out)
     }
 
+    /// Makes the key of its own codes ready for eight messages at a time.
+    pub fn prepare_batch(&mut self)
+        ensures { self.new ≡ self.old }
+    {
+        self.sealer.prepare_batch();
+    }
+
     /// The sealer that it holds, for what seals several messages in one call.
     pub fn any_sealer(&self) -> &AnySealer
         ensures { result.now ≡ self.now.sealer }

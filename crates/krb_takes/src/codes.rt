@@ -1,14 +1,13 @@
 //! The codes of eight frames, side by side.
 
 ghost use Rattle.std.specs.Prelude.{◌≡◌, ◌<◌, ◌≤◌, ◌+◌, ◌++◌, ◌∷◌, [], ℕ, List, length, OnOk};
-ghost use Rattle.std.specs.Option.{ForSome};
 ghost use Rattle.krb_bulk.specs.Four.{AreFrom};
 ghost use Rattle.krb_keys.specs.BatchMac.{HoldsBatchKey};
 ghost use Rattle.krb_seal.specs.Covered.{CoversFrame, code_key_of};
 ghost use Rattle.krb_takes.specs.Codes.{AreCoded, AreCodesOf, CoversAt, bytes_in, coded_by};
 
 use crate::frame::KrbFrame;
-use krb_bulk::{Four, eight_codes};
+use krb_bulk::{Four, are_many, eight_codes};
 use krb_etype::CODE_SIZE;
 use krb_keys::BatchMac;
 use krb_seal::{Coded, Covered, Opener};
@@ -115,23 +114,21 @@ fn put_eight<'f>(
     put_four(queue, second, &others)
 }
 
-/// Puts the codes of the next eight frames into a queue that is empty, if there are so many. Without
-/// memory it stays empty.
+/// Puts the codes of the next eight frames into a queue that is empty, if there are so many and the opener
+/// is prepared for it. Without memory it stays empty.
 fn put_codes<'f>(
     alloc: Global,
     opener: &Opener,
-    mac: &BatchMac,
     frames: &[KrbFrame<'f>],
     queue: &mut VecDeque<Option<Coded<'f>>>,
 )
-    requires mac { HoldsBatchKey mac.now (code_key_of opener.now) }
     requires empty { queue.old.items ≡ [] }
     ensures { AreCoded opener.now frames.now queue.new.items }
 {
-    if frames.len() < 8 {
+    let Some(mac) = opener.batch_mac() else {
         return;
-    }
-    if put_eight(alloc, opener, mac, frames, queue).is_err() {
+    };
+    if are_many(frames.len()) && put_eight(alloc, opener, mac, frames, queue).is_err() {
         queue.clear();
     }
 }
@@ -141,19 +138,15 @@ fn put_codes<'f>(
 pub fn next_code<'f>(
     alloc: Global,
     opener: &Opener,
-    mac: &Option<BatchMac>,
     frames: &[KrbFrame<'f>],
     queue: &mut VecDeque<Option<Coded<'f>>>,
 ) -> Option<Coded<'f>>
-    requires mac { ForSome mac.now (λ m. HoldsBatchKey m (code_key_of opener.now)) }
     requires frames { 0 < length frames.now }
     requires queue { AreCoded opener.now frames.now queue.old.items }
     ensures { AreCoded opener.now frames.now (result ∷ queue.new.items) }
 {
-    if let Some(mac) = mac
-        && queue.is_empty()
-    {
-        put_codes(alloc, opener, mac, frames, queue);
+    if queue.is_empty() {
+        put_codes(alloc, opener, frames, queue);
     }
     queue.pop_front().unwrap_or(None)
 }
