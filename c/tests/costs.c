@@ -1,7 +1,8 @@
 /* What calls cost: under callgrind, linked with the shared library, so that its instructions stand alone.
- * Its words are sizes, and after them the calls that are measured, by default all. A line for each case on standard output: call, what happens, mode, encryption type, size, answer, and of
- * the allocations how many, the bytes asked for, the largest, and the frame's bytes. Callgrind dumps the
- * instructions of each under the same line (c/costs reads both). */
+ * Its words are sizes, and after them the calls that are measured, by default all. A line for each case on standard
+ * output: call, what happens, mode, encryption type, size, answer, and of the allocations how many, the bytes asked
+ * for, the largest, and the frame's bytes. Callgrind dumps the instructions of each under the same line (c/costs reads
+ * both). */
 #include "check.h"
 #include "krbrelay.h"
 #include "session.h"
@@ -44,8 +45,9 @@ void *realloc(void *block, size_t size)
 static uint8_t key[32], data[MOST], frame[FRAME], out[MANY * FRAME];
 static const uint8_t confounder[16] = { 1, 2, 3 };
 static struct krbrelay_unsealed many[MANY];
-static struct krbrelay_frame together[MANY];
-static uint8_t frames[MANY * FRAME];
+static struct krbrelay_frame together[2 * MANY]; /* of two calls */
+static uint8_t frames[2 * MANY * FRAME];
+static int taken_before; /* so many of them were taken before */
 static size_t data_len, frame_len, told, sizes[KRBRELAY_MOST_MESSAGES];
 static uint32_t kind, mode;
 static int32_t etype;
@@ -123,7 +125,9 @@ static enum krbrelay_answer take(void)
 static enum krbrelay_answer take_many(void)
 {
     struct krbrelay_taken taken[KRBRELAY_MOST_FRAMES];
-    enum krbrelay_answer answer = krbrelay_receiver_take_many(&receiver, together, MANY, &now, out, sizeof out, taken);
+    enum krbrelay_answer answer = krbrelay_receiver_take_many(&receiver, together + taken_before, MANY, &now, out,
+                                                              sizeof out, taken);
+    taken_before = MANY;
     for (int i = 0; i < MANY && answer == KRBRELAY_OK; i++)
         answer = (enum krbrelay_answer)taken[i].answer;
     return answer;
@@ -166,6 +170,7 @@ static const struct call { const char *name; enum krbrelay_answer (*made)(void);
 
 static void make_all(void)
 {
+    taken_before = 0;
     check(new_sealer() == KRBRELAY_OK && new_opener() == KRBRELAY_OK && new_receiver() == KRBRELAY_OK
           && new_peer() == KRBRELAY_OK, "no handles");
 }
@@ -182,7 +187,7 @@ static void end_all(void)
 static void seal_frames(void)
 {
     make_all();
-    for (int i = 0; i < MANY; i++) {
+    for (int i = 0; i < 2 * MANY; i++) {
         together[i].bytes = frames + i * FRAME;
         check(krbrelay_sealer_seal_record(&sealer, KRBRELAY_TEXT, data, data_len, &now, confounder,
                                           frames + i * FRAME, FRAME, &together[i].bytes_len) == KRBRELAY_OK, "no frame");
@@ -197,12 +202,15 @@ static int is_of_many(const struct call *call)
     return call->made == seal_many || call->made == peer_seal_many || call->made == take_many;
 }
 
-static void measure(const struct call *call, const char *what)
+/* The call, after as many others like it. */
+static void measure_after(const struct call *call, int others, const char *what)
 {
     char line[LINE];
     enum krbrelay_answer answer;
     if (!call->makes)
         make_all();
+    for (; others > 0; others--)
+        check(call->made() == KRBRELAY_OK, "the call before");
     memset(&asked, 0, sizeof asked);
     CALLGRIND_ZERO_STATS;
     CALLGRIND_TOGGLE_COLLECT;
@@ -214,6 +222,11 @@ static void measure(const struct call *call, const char *what)
     CALLGRIND_DUMP_STATS_AT(line);
     puts(line);
     end_all();
+}
+
+static void measure(const struct call *call, const char *what)
+{
+    measure_after(call, 0, what);
 }
 
 /* The frame ends by its checksum or code. */
@@ -244,6 +257,8 @@ static void measure_all(int count, char **names)
         if ((calls[i].makes && data_len > 0) || !is_asked(calls[i].name, count, names))
             continue;
         measure(&calls[i], "done");
+        if (is_of_many(&calls[i]))
+            measure_after(&calls[i], 1, "done again");
         if (!calls[i].opens || calls[i].made == header)
             continue;
         measure_changed(&calls[i], frame_len - CODE, "first of the code changed");

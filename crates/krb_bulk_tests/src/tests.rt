@@ -3,7 +3,7 @@
 ghost use Rattle.std.specs.Prelude.{◌≡◌, ◌≤◌, IfOk, length};
 ghost use Rattle.krb_seal.specs.Session.{HasShortAddresses, IsShortAddress};
 
-use krb_bulk::{ManyError, Unsealed, frames_of, seal_many};
+use krb_bulk::{ManyError, Unsealed, are_many, frames_of, seal_many};
 use krb_der::{Bytes, HostAddress, Moment};
 use krb_seal::{Mode, SealError, Sealer, Session, SessionKey, SessionSealer};
 use sha1::Sha1;
@@ -183,6 +183,35 @@ fn frames_are_those_of_another_sealer(rt: HostRuntime) -> Result<(), Fail> {
         assert_eq!(rt; sealer.next(), 7 + COUNT as u64);
     }
     Ok(())
+}
+
+#[test]
+fn a_key_for_several_codes_is_of_the_present_mode(rt: HostRuntime) -> Result<(), Fail> {
+    let pattern = pattern(rt.alloc())?;
+    let messages = messages(rt.alloc(), &pattern, &known_sizes(rt.alloc())?)?;
+    for (wide, mode, digest) in &DIGESTS {
+        let other = match mode {
+            Mode::Safe => Mode::Priv,
+            Mode::Priv => Mode::Safe,
+        };
+        let mut sealer = sealer(rt.alloc(), *wide, other, 7)?;
+        sealer.prepare_batch();
+        sealer.set_mode(*mode);
+        let singly = frames_of(rt.alloc(), &sealer, &messages)?;
+        assert_eq!(rt; digest_of(&singly).as_slice(), digest.as_slice());
+        sealer.prepare_batch();
+        let together = frames_of(rt.alloc(), &sealer, &messages)?;
+        assert_eq!(rt; digest_of(&together).as_slice(), digest.as_slice());
+    }
+    Ok(())
+}
+
+#[test]
+fn eight_are_many(rt: HostRuntime) {
+    assert!(rt; !are_many(0));
+    assert!(rt; !are_many(7));
+    assert!(rt; are_many(8));
+    assert!(rt; are_many(usize::MAX));
 }
 
 /// What sealing messages of these sizes answers, and the next number then.

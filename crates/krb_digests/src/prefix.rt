@@ -187,15 +187,17 @@ fn note_ended(digests: &mut [[u8; 20]; 8], state: &[u32x8; 5], rests: &[Rest<'_>
 }
 
 impl Prefix {
-    /// The hash value after this block.
-    pub fn new(block: &[u8; 64]) -> Prefix
-        ensures { result ≡ after_block block.now }
+    /// The hash values after two blocks, as HMAC has two.
+    pub fn pair(first: &[u8; 64], second: &[u8; 64]) -> (Prefix, Prefix)
+        ensures first { result.0 ≡ after_block first.now }
+        ensures second { result.1 ≡ after_block second.now }
     {
+        let mut blocks = [*first; 8];
+        blocks[1] = *second;
         let mut state = each(&INITIAL_HASH);
-        compress(&mut state, &[*block; 8]);
-        Prefix {
-            hash: hash_of(&state, 0),
-        }
+        compress(&mut state, &blocks);
+        let (first, second) = (hash_of(&state, 0), hash_of(&state, 1));
+        (Prefix { hash: first }, Prefix { hash: second })
     }
 
     /// The digests of eight messages, of which each is the block followed by its bytes.

@@ -32,10 +32,8 @@ impl BatchMac {
     pub fn new(key: &[u8]) -> BatchMac
         ensures { HoldsBatchKey result key.now }
     {
-        BatchMac {
-            inner: Prefix::new(&padded_key(INNER_PAD, key)),
-            outer: Prefix::new(&padded_key(OUTER_PAD, key)),
-        }
+        let (inner, outer) = Prefix::pair(&padded_key(INNER_PAD, key), &padded_key(OUTER_PAD, key));
+        BatchMac { inner, outer }
     }
 
     /// The codes of eight texts, of 20 bytes each.

@@ -82,13 +82,15 @@ fn texts_from(first: usize) -> [&'static [u8]; MESSAGES] {
 fn codes_and_digests_of_eight_texts(rt: HostRuntime) {
     for first in 0..8 {
         let mut mac = BatchMac::new(b"Jefe");
-        let mut prefix = Prefix::new(&[0x36; 64]);
+        let (mut inner, mut outer) = Prefix::pair(&[0x36; 64], &[0x5c; 64]);
         let codes = mac.hmac96(&texts_from(first));
-        let digests = prefix.digests(&texts_from(first));
+        let digests = inner.digests(&texts_from(first));
         mac.wipe();
         mac.spend();
-        prefix.wipe();
-        prefix.spend();
+        inner.wipe();
+        inner.spend();
+        outer.wipe();
+        outer.spend();
         for j in 0..8 {
             let (_, code, digest) = TEXTS[(first + j) % 8];
             assert_hex(&rt, &codes[j], code);
@@ -103,10 +105,12 @@ fn digests_of_20_bytes(rt: HostRuntime) {
     for j in 0..8 {
         messages[j] = [b'a' + j as u8; 20];
     }
-    let mut prefix = Prefix::new(&[0x5c; 64]);
-    let digests = prefix.digests_of_20(&messages);
-    prefix.wipe();
-    prefix.spend();
+    let (mut inner, mut outer) = Prefix::pair(&[0x36; 64], &[0x5c; 64]);
+    let digests = outer.digests_of_20(&messages);
+    inner.wipe();
+    inner.spend();
+    outer.wipe();
+    outer.spend();
     for j in 0..8 {
         assert_hex(&rt, &digests[j], DIGESTS_OF_20[j]);
     }

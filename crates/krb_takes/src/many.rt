@@ -17,19 +17,6 @@ use std::collections::VecDeque;
 /// How many frames are taken in one call at most.
 pub const MOST_FRAMES: usize = 64;
 
-/// Frames with fewer bytes than this are hashed by fewer instructions than derive the key for eight codes
-/// (callgrind, by the calls of `c/costs`).
-const LEAST_BYTES: usize = 4096;
-
-/// Whether frames are so many and so long that the key for eight codes at a time is worth deriving.
-fn are_worth_a_key(frames: &[KrbFrame<'_>]) -> bool {
-    let mut bytes = 0usize;
-    for frame in frames {
-        bytes = bytes.saturating_add(frame.bytes.len());
-    }
-    are_many(frames.len()) && bytes >= LEAST_BYTES
-}
-
 /// Takes frames one after another.
 fn take_all(
     alloc: Global,
@@ -81,7 +68,7 @@ pub fn take_many_into(
     ensures answer { NeedsMoment at.now IsDone (answer_of result) }
 {
     at.moment()?;
-    if are_worth_a_key(frames) {
+    if are_many(frames.len()) {
         receiver.prepare_batch();
     }
     take_all(alloc, receiver, frames, at, out, taken);
