@@ -36,8 +36,8 @@ static enum krbrelay_answer open_any(struct shard *s, struct receiving *of, cons
     const struct krbrelay_demand any = { 0 };
     const struct krbrelay_moment now = read_clock();
     size_t size;
-    return krbrelay_opener_open(&of->opener, it->frame, it->len, &any, &now, s->bytes, KRBRELAY_FRAME_LIMIT, &size,
-                                carried);
+    return krbrelay_opener_open(&of->opener, it->frame, it->len, &any, &now, s->bytes + s->together.used,
+                                KRBRELAY_FRAME_LIMIT - s->together.used, &size, carried);
 }
 
 /* Opens the frame at any number, time and addresses: 1 and its number, 0 if it is refused or tells no
@@ -202,29 +202,29 @@ static int take_text(struct shard *s, const struct arrived *it)
 }
 
 /* The effects of the texts of a record. */
-static int take_effects(struct shard *s, const struct receiving *of, uint64_t number, uint32_t kind,
-                        size_t size)
+static int take_effects(struct shard *s, const struct receiving *of, uint64_t number,
+                        const struct krbrelay_taken *taken, const uint8_t *bytes)
 {
     struct arrived it = { of->of.name, of->opened != NULL ? of->opened->client : "",
-                          of->opened != NULL ? of->opened->stream : "", number, 0, s->bytes, size };
+                          of->opened != NULL ? of->opened->stream : "", number, 0, bytes, taken->size };
     size_t at = 0;
     int answer = 0;
-    if (kind == KRBRELAY_TEXT)
+    if (taken->kind == KRBRELAY_TEXT)
         answer = take_text(s, &it);
-    while (kind == KRBRELAY_BATCH && answer == 0
-           && krbrelay_batch_next(s->bytes, size, &at, &it.text, &it.len) == KRBRELAY_OK) {
+    while (taken->kind == KRBRELAY_BATCH && answer == 0
+           && krbrelay_batch_next(bytes, taken->size, &at, &it.text, &it.len) == KRBRELAY_OK) {
         answer = take_text(s, &it);
         it.part++;
     }
-    s->counts.bytes += size;
+    s->counts.bytes += taken->size;
     return answer;
 }
 
 /* The frame of the demanded number, whose record is read. */
-static int take_accepted(struct shard *s, struct receiving *of, const struct carried *it, uint32_t kind,
-                         size_t size)
+static int take_accepted(struct shard *s, struct receiving *of, const struct carried *it,
+                         const struct krbrelay_taken *taken, const uint8_t *bytes)
 {
-    const struct krbrelay_seen seen = { .accepted = 1, .is_close = kind == KRBRELAY_CLOSE };
+    const struct krbrelay_seen seen = { .accepted = 1, .is_close = taken->kind == KRBRELAY_CLOSE };
     uint64_t number = of->end.drafted.number;
     uint32_t outcome = 0;
     int done;
@@ -238,7 +238,7 @@ static int take_accepted(struct shard *s, struct receiving *of, const struct car
     goes_on(s, of);
     s->counts.accepted++;
     s->open -= seen.is_close && s->open > 0;
-    done = take_effects(s, of, number, kind, size);
+    done = take_effects(s, of, number, taken, bytes);
     s->counts.storing += lap(s);
     return done;
 }
@@ -310,26 +310,75 @@ static int is_before_turn(struct shard *s, const struct receiving *of)
            && shard_judge(s, of) != KRBRELAY_JUDGED_BEGINS;
 }
 
-/* Takes one frame of a session, within a transaction. */
-static int take(struct shard *s, struct receiving *of, const struct carried *it)
+static int is_opening_of(const struct receiving *of, const struct carried *it)
 {
+    return of->opened != NULL && opening_is(it->frame, it->len);
+}
+
+/* The frames from this one on that are taken in one call: those of its session that follow at once, whose records have
+ * room. */
+static int find_together(const struct shard *s, int first, int end, struct krbrelay_frame list[KRBRELAY_MOST_FRAMES])
+{
+    const struct receiving *of = s->of_frames[first];
+    size_t len = 0;
+    int count = 0;
+    while (count < KRBRELAY_MOST_FRAMES && first + count < end && s->of_frames[first + count] == of) {
+        const struct carried *it = &s->frames[first + count];
+        if (count > 0 && (is_opening_of(of, it) || it->len > KRBRELAY_FRAME_LIMIT - len))
+            break;
+        list[count++] = (struct krbrelay_frame){ it->frame, it->len };
+        len += it->len < KRBRELAY_FRAME_LIMIT ? it->len : KRBRELAY_FRAME_LIMIT;
+    }
+    return count;
+}
+
+/* Takes them. Where the call fails, that is the first one's answer, and no other was taken. */
+static void take_together(struct shard *s, struct receiving *of, int first, int end)
+{
+    struct together *it = &s->together;
+    struct krbrelay_frame list[KRBRELAY_MOST_FRAMES];
     enum krbrelay_answer answer;
-    uint64_t number = UINT64_MAX;
-    uint32_t kind = 0;
-    size_t size = 0;
+    int i;
+    it->first = first;
+    it->count = find_together(s, first, end, list);
+    it->used = 0;
+    for (i = 0; i < it->count; i++)
+        it->taken[i].number = UINT64_MAX;
+    answer = krbrelay_receiver_take_many(&of->receiver, list, (size_t)it->count, &s->moment, s->bytes,
+                                         KRBRELAY_FRAME_LIMIT, it->taken);
+    if (answer != KRBRELAY_OK) {
+        it->taken[0] = (struct krbrelay_taken){ .answer = (uint32_t)answer, .number = UINT64_MAX };
+        it->count = 1;
+    }
+    for (i = 0; i < it->count; i++) {
+        it->at[i] = it->used;
+        it->used += it->taken[i].answer == KRBRELAY_OK ? it->taken[i].size : 0;
+    }
+}
+
+/* Takes one frame of a session, within a transaction of so many. */
+static int take(struct shard *s, struct receiving *of, int place, int end)
+{
+    const struct carried *it = &s->frames[place];
+    const struct krbrelay_taken *taken;
+    enum krbrelay_answer answer;
     int done;
     list_add(&s->taken, of, &of->is_taken);
-    if (of->opened != NULL && opening_is(it->frame, it->len))
+    if (is_opening_of(of, it))
         return take_opening(s, of, it);
     if (is_before_turn(s, of))
         return take_before_turn(s, of, it);
     if (make_receiver(s, of) != 0)
         return -1;
-    answer = krbrelay_receiver_take_numbered(&of->receiver, it->frame, it->len, &s->moment, &kind, s->bytes,
-                                             KRBRELAY_FRAME_LIMIT, &size, &number);
-    done = answer == KRBRELAY_OK ? 0 : take_refusal(s, of, it, answer, number);
+    if (place - s->together.first >= s->together.count)
+        take_together(s, of, place, end);
+    taken = &s->together.taken[place - s->together.first];
+    answer = (enum krbrelay_answer)taken->answer;
+    done = answer == KRBRELAY_OK ? 0 : take_refusal(s, of, it, answer, taken->number);
     s->counts.opening += lap(s);
-    return answer == KRBRELAY_OK ? take_accepted(s, of, it, kind, size) : done;
+    if (answer != KRBRELAY_OK)
+        return done;
+    return take_accepted(s, of, it, taken, s->bytes + s->together.at[place - s->together.first]);
 }
 
 /* ---- The frames of one transaction */
@@ -391,13 +440,14 @@ static int take_all(struct shard *s, int count)
     int i, answer;
     s->moment = read_clock();
     s->lap = nanoseconds();
+    s->together.first = s->together.count = 0;
     answer = shard_load_frames(s, count);
     if (answer == 0)
         answer = store_begin(s->store, s->number, &from, &to);
     s->counts.storing += lap(s);
     for (i = 0; i < count && answer == 0; i++) {
         if (s->of_frames[i] != NULL)
-            answer = take(s, s->of_frames[i], &s->frames[i]);
+            answer = take(s, s->of_frames[i], i, count);
         else
             take_unknown(s, &s->frames[i]);
     }

@@ -74,6 +74,13 @@ struct shard_counts {
     uint64_t opening, fetching, storing; /* nanoseconds */
 };
 
+/* Frames of one session that were taken in one call, which come one after another. */
+struct together {
+    int first, count;              /* which of the transaction's frames */
+    struct krbrelay_taken taken[KRBRELAY_MOST_FRAMES];
+    size_t at[KRBRELAY_MOST_FRAMES], used; /* where in the shard's bytes each record begins, and the last ends */
+};
+
 struct shard {
     const struct shard_options *options;
     struct sessions *sessions;     /* the file, of which this is a user */
@@ -100,7 +107,8 @@ struct shard {
     unsigned long turn;            /* so often it was loaded */
     int is_loaded;
     size_t open;                   /* if it is asked for, so many sessions aren't closed */
-    uint8_t *bytes;                /* of one record */
+    uint8_t *bytes;                /* of the records of these frames, and of a frame that is looked at */
+    struct together together;
     struct shard_counts counts;
 };
 

@@ -15,9 +15,11 @@ KINDS = [(name, etype, mode) for etype in (17, 18) for name, mode in (("safe", 2
 CONTROL = 3             # the places of the part `control`: one of each secret
 # Those of `refuse`, of each mode: the branch on the outcome of the comparison. Of KRB-SAFE one where a
 # call demands nothing first and one where it demands the body; and the use of the outcome in each of the
-# eight calls, whose answer it is. Of KRB-PRIV the archive has that branch twice: where the code that a frame
-# ought to have is given, and where it is computed.
-OUTCOMES, OUTCOMES_V3 = {"safe": 10, "priv": 2}, {"safe": 10, "priv": 1}
+# seven calls, whose answer it is.
+OUTCOMES = {"safe": 9, "priv": 1}
+# Those of `refuse_together`, where the code that a frame ought to have was computed before. The compiler may have
+# the branch once for both parts, or twice.
+TOGETHER = {"safe": 3, "priv": 1}
 # What holds decrypted bytes before their code is compared, and the calls of the library.
 HOLDERS = ("krb_seal.opening.", "krbrelay_")
 # What uses the outcome, and then reads the record in a text whose code was right.
@@ -105,7 +107,7 @@ class Calls:
     def opening(self, outcomes):
         """A text whose code was right is read by those that may, and after the comparison alone."""
         places = self.places("open")
-        reached = self.reached("refuse")
+        reached = self.reached("refuse") | self.reached("refuse_together")
         before = {it for it in places if it.is_of(HOLDERS) and it.at in reached}
         wrong = before - outcomes | {it for it in places - before
                                      if not it.is_of(HOLDERS + RECEIVERS + READERS)}
@@ -116,10 +118,10 @@ class Calls:
                         f" {len(wrong)} depend on a secret elsewhere, and {len(places - before)} read"
                         " a text whose code was right", memcheck.by_function(wrong))
 
-    def watch(self, outcomes):
+    def watch(self):
         self.has("control", CONTROL)
         self.has("seal", 0)
-        self.opening(self.has("refuse", outcomes[self.name]))
+        self.opening(self.has("refuse", OUTCOMES[self.name]) | self.has("refuse_together", TOGETHER[self.name]))
 
 
 @dataclasses.dataclass(frozen=True)
@@ -134,7 +136,7 @@ class Plant:
 
 PLANTS = (
     Plant("large.c", "krbrelay_receiver_new", "krbrelay_receiver_take", "refuse", "frames of over 512 bytes"),
-    Plant("take_many.c", "krbrelay_receiver_new", "krbrelay_receiver_take_many", "refuse",
+    Plant("take_many.c", "krbrelay_receiver_new", "krbrelay_receiver_take_many", "refuse_together",
           "many frames in one call"),
     Plant("many.c", "krbrelay_sealer_new", "krbrelay_sealer_seal_many", "seal", "many messages in one call"),
     Plant("many_by_peer.c", "krbrelay_peer_resume", "krbrelay_peer_seal_many", "seal",
@@ -161,18 +163,18 @@ class Linked:
 
 def watch(folder, prefix):
     count = report.Count()
-    watch_one(folder, Linked(prefix, archive_of(prefix)), OUTCOMES, count)
+    watch_one(folder, Linked(prefix, archive_of(prefix)), count)
     if has_v3():
         print("for x86-64-v3:")
-        watch_one(folder, Linked(prefix, object_of_v3(prefix)), OUTCOMES_V3, count)
+        watch_one(folder, Linked(prefix, object_of_v3(prefix)), count)
     else:
         print("skipped: the object for x86-64-v3, which this processor or its loader doesn't have")
     return count
 
 
-def watch_one(folder, linked, outcomes, count):
+def watch_one(folder, linked, count):
     program = build(folder, linked.prefix, linked.words)
     for kind in KINDS:
-        Calls(folder, program, count, kind).watch(outcomes)
+        Calls(folder, program, count, kind).watch()
     for plant in PLANTS:
         planted(folder, linked, plant, count)

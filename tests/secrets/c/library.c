@@ -264,10 +264,10 @@ static void take_by_receiver(size_t len, enum krbrelay_answer wanted)
     krbrelay_receiver_free(&receiver);
 }
 
-/* The same frame many times in one call: eight side by side, and the last ones singly. */
+/* The same frame many times in one call, by eights. */
 static void take_together(size_t len, enum krbrelay_answer wanted)
 {
-    enum { TIMES = KRBRELAY_MOST_FRAMES - 1 };
+    enum { TIMES = KRBRELAY_MOST_FRAMES };
     static struct krbrelay_taken taken[KRBRELAY_MOST_FRAMES];
     const struct krbrelay_expect demands = expected();
     struct krbrelay_receiver receiver = { 0 };
@@ -284,29 +284,36 @@ static void take_together(size_t len, enum krbrelay_answer wanted)
     krbrelay_receiver_free(&receiver);
 }
 
-/* A frame that was just sealed, with its last byte as it is or changed by `mask`, by each call. */
-static void open_by_all(size_t len, uint8_t mask, enum krbrelay_answer wanted)
+/* The frame that was just sealed, by calls of one frame each. */
+static void open_singly(size_t len, enum krbrelay_answer wanted)
 {
-    frame[len - 1] ^= mask;
     take_by_receiver(len, wanted);
-    take_together(len, wanted);
     open_by_peer(len, wanted);
     open_by_opener(len, wanted);
 }
 
-/* Frames of a text of each size and of a batch, each of which has the first number. */
-static void open_all(uint8_t mask, enum krbrelay_answer wanted)
+static void open_by_all(size_t len, enum krbrelay_answer wanted)
+{
+    take_together(len, wanted);
+    open_singly(len, wanted); /* the last of these opens it in place */
+}
+
+/* Frames of a text of each size and of a batch, each of which has the first number, with their last byte changed by
+ * `mask`. */
+static void open_all(uint8_t mask, enum krbrelay_answer wanted, void (*by)(size_t, enum krbrelay_answer))
 {
     struct krbrelay_sealer sealer = { 0 };
     uint8_t batch[200];
-    for (size_t i = 0; i < sizeof opened_sizes / sizeof opened_sizes[0]; i++) {
+    size_t count = sizeof opened_sizes / sizeof opened_sizes[0];
+    for (size_t i = 0; i <= count; i++) {
+        size_t len;
         make_sealer(&sealer);
-        open_by_all(sealed_record(&sealer, KRBRELAY_TEXT, text, opened_sizes[i]), mask, wanted);
+        len = i < count ? sealed_record(&sealer, KRBRELAY_TEXT, text, opened_sizes[i])
+                        : sealed_record(&sealer, KRBRELAY_BATCH, batch, two_texts(batch, sizeof batch));
+        frame[len - 1] ^= mask;
+        by(len, wanted);
         krbrelay_sealer_free(&sealer);
     }
-    make_sealer(&sealer);
-    open_by_all(sealed_record(&sealer, KRBRELAY_BATCH, batch, two_texts(batch, sizeof batch)), mask, wanted);
-    krbrelay_sealer_free(&sealer);
 }
 
 static int note_base(struct dl_phdr_info *loaded, size_t size, void *base)
@@ -319,11 +326,13 @@ static int note_base(struct dl_phdr_info *loaded, size_t size, void *base)
 
 int main(int count, char **words)
 {
+    enum krbrelay_answer refused;
     uintptr_t base = 0;
     if (count != 4)
         end("PART ETYPE MODE");
     etype = atoi(words[2]);
     mode = (uint32_t)atoi(words[3]);
+    refused = mode == KRBRELAY_SAFE ? KRBRELAY_MODIFIED : KRBRELAY_BAD_INTEGRITY;
     dl_iterate_phdr(note_base, &base);
     printf("%" PRIxPTR "\n", base);
     draw_secrets();
@@ -332,9 +341,11 @@ int main(int count, char **words)
     else if (strcmp(words[1], "seal") == 0)
         seal();
     else if (strcmp(words[1], "refuse") == 0)
-        open_all(1, mode == KRBRELAY_SAFE ? KRBRELAY_MODIFIED : KRBRELAY_BAD_INTEGRITY);
+        open_all(1, refused, open_singly);
+    else if (strcmp(words[1], "refuse_together") == 0)
+        open_all(1, refused, take_together);
     else if (strcmp(words[1], "open") == 0)
-        open_all(0, KRBRELAY_OK);
+        open_all(0, KRBRELAY_OK, open_by_all);
     else
         end("no such part");
     return 0;
