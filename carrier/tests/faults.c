@@ -56,29 +56,35 @@ enum krbrelay_answer __wrap_krbrelay_opener_open(struct krbrelay_opener *handle,
     return __real_krbrelay_opener_open(handle, frame, len, demand, at, user_data, room, size, carried);
 }
 
-enum krbrelay_answer __real_krbrelay_receiver_take_numbered(struct krbrelay_receiver *handle,
-                                                            const uint8_t *frame, size_t len,
-                                                            const struct krbrelay_moment *at, uint32_t *kind,
-                                                            uint8_t *bytes, size_t room, size_t *size,
-                                                            uint64_t *number);
-enum krbrelay_answer __wrap_krbrelay_receiver_take_numbered(struct krbrelay_receiver *handle,
-                                                            const uint8_t *frame, size_t len,
-                                                            const struct krbrelay_moment *at, uint32_t *kind,
-                                                            uint8_t *bytes, size_t room, size_t *size,
-                                                            uint64_t *number);
+enum krbrelay_answer __real_krbrelay_receiver_take_many(struct krbrelay_receiver *handle,
+                                                        const struct krbrelay_frame *frames, size_t count,
+                                                        const struct krbrelay_moment *at, uint8_t *bytes,
+                                                        size_t room, struct krbrelay_taken *taken);
+enum krbrelay_answer __wrap_krbrelay_receiver_take_many(struct krbrelay_receiver *handle,
+                                                        const struct krbrelay_frame *frames, size_t count,
+                                                        const struct krbrelay_moment *at, uint8_t *bytes,
+                                                        size_t room, struct krbrelay_taken *taken);
 
-enum krbrelay_answer __wrap_krbrelay_receiver_take_numbered(struct krbrelay_receiver *handle,
-                                                            const uint8_t *frame, size_t len,
-                                                            const struct krbrelay_moment *at, uint32_t *kind,
-                                                            uint8_t *bytes, size_t room, size_t *size,
-                                                            uint64_t *number)
+/* One frame at a time where one of them meets another clock. */
+enum krbrelay_answer __wrap_krbrelay_receiver_take_many(struct krbrelay_receiver *handle,
+                                                        const struct krbrelay_frame *frames, size_t count,
+                                                        const struct krbrelay_moment *at, uint8_t *bytes,
+                                                        size_t room, struct krbrelay_taken *taken)
 {
     static int had;
     const char *ahead = getenv("TAKEN_AHEAD");
-    struct krbrelay_moment now = *at;
-    if (ahead != NULL && __sync_add_and_fetch(&had, 1) == atoi(ahead))
-        now.seconds += 1000000;
-    return __real_krbrelay_receiver_take_numbered(handle, frame, len, &now, kind, bytes, room, size, number);
+    enum krbrelay_answer answer = KRBRELAY_OK;
+    size_t i, used = 0;
+    if (ahead == NULL)
+        return __real_krbrelay_receiver_take_many(handle, frames, count, at, bytes, room, taken);
+    for (i = 0; i < count && answer == KRBRELAY_OK; i++) {
+        struct krbrelay_moment now = *at;
+        if (__sync_add_and_fetch(&had, 1) == atoi(ahead))
+            now.seconds += 1000000;
+        answer = __real_krbrelay_receiver_take_many(handle, &frames[i], 1, &now, bytes + used, room - used, &taken[i]);
+        used += taken[i].answer == KRBRELAY_OK ? taken[i].size : 0;
+    }
+    return answer;
 }
 
 static int happens(void)

@@ -1,7 +1,8 @@
 /* What a shard takes of frames, among them those of an independent sealer, that nothing of a transaction is
  * stored if an effect of it fails, and what is left in memory:
  *     shard_test FOLDER
- * Built with -Wl,--wrap=free,--wrap=krbrelay_opener_open,--wrap=kept_find,--wrap=opening_session. */
+ * Built with -Wl,--wrap=free,--wrap=krbrelay_opener_open,--wrap=krbrelay_receiver_take_many,--wrap=kept_find,
+ * --wrap=opening_session. */
 #include "check.h"
 #include "effects.h"
 #include "kept.h"
@@ -50,6 +51,26 @@ enum krbrelay_answer __wrap_krbrelay_opener_open(struct krbrelay_opener *handle,
 {
     opened++;
     return __real_krbrelay_opener_open(handle, frame, len, demand, at, user_data, room, size, carried);
+}
+
+enum krbrelay_answer __real_krbrelay_receiver_take_many(struct krbrelay_receiver *handle,
+                                                        const struct krbrelay_frame *frames, size_t count,
+                                                        const struct krbrelay_moment *at, uint8_t *bytes,
+                                                        size_t room, struct krbrelay_taken *taken);
+enum krbrelay_answer __wrap_krbrelay_receiver_take_many(struct krbrelay_receiver *handle,
+                                                        const struct krbrelay_frame *frames, size_t count,
+                                                        const struct krbrelay_moment *at, uint8_t *bytes,
+                                                        size_t room, struct krbrelay_taken *taken);
+
+static size_t most_together;    /* so many frames were taken in one call at most */
+
+enum krbrelay_answer __wrap_krbrelay_receiver_take_many(struct krbrelay_receiver *handle,
+                                                        const struct krbrelay_frame *frames, size_t count,
+                                                        const struct krbrelay_moment *at, uint8_t *bytes,
+                                                        size_t room, struct krbrelay_taken *taken)
+{
+    most_together = count > most_together ? count : most_together;
+    return __real_krbrelay_receiver_take_many(handle, frames, count, at, bytes, room, taken);
 }
 
 /* Sessions of streams that the store has: keys are tom's, and can be read or not. */
@@ -246,6 +267,30 @@ static void test_opened_once(struct shard *shard, struct carrier *carrier)
     check(shard->counts.repeats == repeats + 2, "so it is counted");
 }
 
+/* Frames of a session that follow one another are taken in one call. One of them that is refused, and opened to look
+ * at its number, leaves the texts of the others as they are. */
+static void test_together(struct shard *shard, struct carrier *carrier, sqlite3 *store)
+{
+    int before = opened;
+    most_together = 0;
+    publish(carrier, safe_17_timeless, sizeof safe_17_timeless);
+    publish_texts(carrier, NUMBER + 2, 2);
+    publish_texts(carrier, NUMBER + 3, 2);
+    publish_texts(carrier, NUMBER + 4, TEXTS);
+    take(shard);
+    check(most_together == 4, "four frames are taken in one call");
+    check(opened == before + 1, "the one without a time is opened once more");
+    check(told(store, "SELECT next FROM session WHERE name = 'tom'") == NUMBER + 5, "the others are accepted");
+    check(told(store, "SELECT count(*) FROM effect WHERE number BETWEEN 9 AND 11") == 2 + 2 + TEXTS
+          && told(store, "SELECT count(*) FROM effect WHERE number BETWEEN 9 AND 11 AND part = 0"
+                         " AND text = CAST('first' AS BLOB)") == 3
+          && told(store, "SELECT count(*) FROM effect WHERE number BETWEEN 9 AND 11 AND part = 1"
+                         " AND length(text) = 0") == 3
+          && told(store, "SELECT count(*) FROM effect WHERE number = 11 AND part = 3"
+                         " AND text = CAST('last' AS BLOB)") == 1,
+          "and each text takes effect as it is");
+}
+
 /* A session of a stream whose turn hasn't come, as far as the receiver sees: its frame comes too early. */
 static void publish_early(struct shard *shard, struct carrier *carrier, const char *name)
 {
@@ -357,6 +402,7 @@ int main(int count, char **words)
     test_times(&shard, carrier);
     test_failing_effect(&shard, carrier, asked);
     test_opened_once(&shard, carrier);
+    test_together(&shard, carrier, asked);
     test_streams(&shard, carrier, asked);
     check(sqlite3_close(asked) == SQLITE_OK, "it is closed");
     watched = shard.bytes;
