@@ -237,6 +237,7 @@ class World:
         self.counts, self.lock, self.ending = collections.Counter(), threading.RLock(), False
         self.feeding = threading.Lock()
         self.sent, self.samples, self.notes = collections.defaultdict(list), [], []
+        self.put_before_restore = {}        # so many texts of each session, where an outbox is restored
         self.where = ",".join(f"nats://{ADDRESS[node]}:{CLIENT}" for node in NODES)
         self.store = f"postgresql://postgres@{ADDRESS[DATABASE]}/postgres"
         self.names = [f"s{place:03}" for place in range(options.sessions)]
@@ -491,6 +492,7 @@ class World:
             for it in glob.glob(self.outbox(sender) + "*"):
                 os.unlink(it)
             shutil.copy(path, self.outbox(sender))
+            self.put_before_restore = {name: len(texts) for name, texts in self.sent.items()}
             self.start_sender(sender)
 
     def copy_store(self):

@@ -373,6 +373,7 @@ def store_slow_and_sharing(world):
 # ---- what has to hold where not all takes effect
 
 QUIET, SETTLED = 12, 75     # seconds without an effect, and at most until then
+LATE = 2                    # seconds for which what is sent may stay in a machine whose answers are late
 
 
 def open_sessions(world):
@@ -400,7 +401,8 @@ def require_true_receipts(world, names, found, faults):
 
 
 def judge_restored_outbox(world, _, faults):
-    """The sessions of s0 are stopped; what was put in since is kept, whether it was sealed or not."""
+    """The sessions of s0 are stopped; what was put in since is kept, whether it was sealed or not. What was put in
+    before went with the outbox's file where it hadn't left yet: some of a second, while answers are late."""
     world.await_quiet(SETTLED, QUIET)
     found, stopped = world.effects(), open_sessions(world)
     if stopped != world.names_of("s0"):
@@ -410,8 +412,11 @@ def judge_restored_outbox(world, _, faults):
     require_true_receipts(world, stopped, found, faults)
     for name in stopped:
         missing, it = len(world.sent[name]) - len(found[name]), world.sending(name)
-        if missing > it.texts + it.sealed - it.kept:
-            faults.append(f"{name}: {missing} texts are missing, of which its outbox has {it}")
+        since = len(world.sent[name]) - world.put_before_restore[name]
+        if min(missing, since) > it.texts + it.sealed - it.kept:
+            faults.append(f"{name}: {missing} texts are missing, {since} were put in since, and its outbox has {it}")
+        if missing - since > LATE * world.options.rate / world.options.sessions:
+            faults.append(f"{name}: {missing - since} texts hadn't left before")
     return f"{len(stopped)} sessions are stopped"
 
 
