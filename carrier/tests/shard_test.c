@@ -230,17 +230,25 @@ static int has_texts(sqlite3 *store, int64_t number, unsigned count)
     return at == count && (unsigned)told(store, "SELECT count(*) FROM effect WHERE number > 7") == count;
 }
 
+static const char refuses[] = "CREATE TRIGGER refuses BEFORE INSERT ON effect WHEN NEW.text = CAST('refused' AS BLOB)"
+                              " BEGIN SELECT RAISE(ABORT, 'refused'); END";
+
+/* A step whose effect fails says so, each time. */
+static void fail(struct shard *shard)
+{
+    int tries, failed = 0;
+    for (tries = 0; tries < STEPS && failed < 2; tries++)
+        failed += shard_step(shard, 10) < 0;
+    check(failed == 2, "a step whose effect fails says so, each time");
+}
+
 /* An effect fails in the middle of a record. Nothing of its transaction is stored, and once the effect is
  * possible again, all of it is: each text once, under its own part. */
 static void test_failing_effect(struct shard *shard, struct carrier *carrier, sqlite3 *store)
 {
-    int tries, failed = 0;
-    change(store, "CREATE TRIGGER refuses BEFORE INSERT ON effect WHEN NEW.text = CAST('refused' AS BLOB)"
-                  " BEGIN SELECT RAISE(ABORT, 'refused'); END");
+    change(store, refuses);
     publish_texts(carrier, NUMBER + 1, TEXTS);
-    for (tries = 0; tries < STEPS && failed < 2; tries++)
-        failed += shard_step(shard, 10) < 0;
-    check(failed == 2, "a step whose effect fails says so, each time");
+    fail(shard);
     check(has_texts(store, NUMBER + 1, 0), "none of its texts took effect");
     check(told(store, "SELECT next FROM session WHERE name = 'tom'") == NUMBER + 1, "its number is still demanded");
     change(store, "DROP TRIGGER refuses");
@@ -289,6 +297,23 @@ static void test_together(struct shard *shard, struct carrier *carrier, sqlite3 
           && told(store, "SELECT count(*) FROM effect WHERE number = 11 AND part = 3"
                          " AND text = CAST('last' AS BLOB)") == 1,
           "and each text takes effect as it is");
+}
+
+/* The same of an effect that is run at once, and not with others when the transaction ends. */
+static void test_failing_statement(struct shard *shard, struct carrier *carrier, sqlite3 *store)
+{
+    check(effects_choose("sql:INSERT INTO effect (session, number, part, text, client, stream)"
+                         " VALUES (:session, :number, :part, :text, :client, :stream)", 0) == 0, "it is a statement");
+    change(store, refuses);
+    publish_texts(carrier, NUMBER + 5, TEXTS);
+    fail(shard);
+    check(told(store, "SELECT count(*) FROM effect WHERE number = 12") == 0, "none of its texts took effect");
+    check(told(store, "SELECT next FROM session WHERE name = 'tom'") == NUMBER + 5, "its number is still demanded");
+    change(store, "DROP TRIGGER refuses");
+    take(shard);
+    check(told(store, "SELECT count(DISTINCT part) FROM effect WHERE number = 12") == TEXTS
+          && told(store, "SELECT count(*) FROM effect WHERE number = 12") == TEXTS, "then each takes effect, once");
+    check(effects_choose(NULL, 0) == 0, "the effect is of effect.c again");
 }
 
 /* A session of a stream whose turn hasn't come, as far as the receiver sees: its frame comes too early. */
@@ -403,6 +428,7 @@ int main(int count, char **words)
     test_failing_effect(&shard, carrier, asked);
     test_opened_once(&shard, carrier);
     test_together(&shard, carrier, asked);
+    test_failing_statement(&shard, carrier, asked);
     test_streams(&shard, carrier, asked);
     check(sqlite3_close(asked) == SQLITE_OK, "it is closed");
     watched = shard.bytes;
