@@ -28,7 +28,7 @@ note "begin $name $*"
 [ -z "$ASKS" ] || [ ! -e "$ASKS" ] || note "sees $name $*"
 among "$name" "$FAILS" && echo "FAILED one of $name"
 for line in 1 2 3 4 5 6 7 8 9 10 11 12 13 14 15 16 17 18 19 20 21 22 23 24 25; do echo "$line"; done
-if among "$name" "$HANGS"; then sleep 60 & note "started $!"; sleep 60; fi
+if among "$name" "$HANGS"; then sleep 60 & note "started $!"; wait; fi
 sleep 0.3
 note "end $name $*"
 echo "told by $name"
