@@ -299,6 +299,41 @@ static void test_together(struct shard *shard, struct carrier *carrier, sqlite3 
           "and each text takes effect as it is");
 }
 
+/* A frame of the longest text. The other one that follows has no room beside it, so each is taken in a call of its own. */
+static void publish_longest(struct carrier *carrier, uint32_t number)
+{
+    static const uint8_t key[16] = { 0, 1, 2, 3, 4, 5, 6, 7, 8, 9, 10, 11, 12, 13, 14, 15 };
+    static const uint8_t confounder[16] = { 0 };
+    static uint8_t text[KRBRELAY_USER_DATA_LIMIT - 1], frame[KRBRELAY_FRAME_LIMIT];
+    const struct krbrelay_session session = { .mode = KRBRELAY_SAFE, .first = number,
+                                              .sender = { 2, 4, { 10, 0, 0, 1 } } };
+    struct krbrelay_sealer sealer = KRBRELAY_INIT;
+    struct krbrelay_moment now;
+    size_t len = 0;
+    memset(text, (int)number, sizeof text);
+    check(krbrelay_now(&now) == KRBRELAY_OK
+          && krbrelay_sealer_new(&sealer, 17, key, sizeof key, &session) == KRBRELAY_OK
+          && krbrelay_sealer_seal_record(&sealer, KRBRELAY_TEXT, text, sizeof text, &now, confounder, frame,
+                                         sizeof frame, &len) == KRBRELAY_OK, "the longest record is sealed");
+    krbrelay_sealer_free(&sealer);
+    publish_as(carrier, "tom", number, frame, len);
+}
+
+static void test_longest(struct shard *shard, struct carrier *carrier, sqlite3 *store)
+{
+    most_together = 0;
+    publish_longest(carrier, NUMBER + 6);
+    publish_longest(carrier, NUMBER + 7);
+    take(shard);
+    check(most_together == 1, "frames that are together too long are taken one by one");
+    check(told(store, "SELECT next FROM session WHERE name = 'tom'") == NUMBER + 8, "both are accepted");
+    check(told(store, "SELECT count(*) FROM effect WHERE number IN (13, 14) AND length(text) = 1000000") == 2
+          && told(store, "SELECT count(*) FROM effect WHERE number = 13 AND text = CAST(replace(hex(zeroblob(1000000)), '00',"
+                         " char(13)) AS BLOB)") == 1
+          && told(store, "SELECT count(*) FROM effect WHERE number = 14 AND text = CAST(replace(hex(zeroblob(1000000)), '00',"
+                         " char(14)) AS BLOB)") == 1, "and each text takes effect whole");
+}
+
 /* The same of an effect that is run at once, and not with others when the transaction ends. */
 static void test_failing_statement(struct shard *shard, struct carrier *carrier, sqlite3 *store)
 {
@@ -429,6 +464,7 @@ int main(int count, char **words)
     test_opened_once(&shard, carrier);
     test_together(&shard, carrier, asked);
     test_failing_statement(&shard, carrier, asked);
+    test_longest(&shard, carrier, asked);
     test_streams(&shard, carrier, asked);
     check(sqlite3_close(asked) == SQLITE_OK, "it is closed");
     watched = shard.bytes;
