@@ -1,28 +1,23 @@
 -- What is made of one message, from what is known of it.
 use Rattle.std.proofs.Common.{◌≡◌, ℕ, ◌+◌, ◌<◌, ◌≤◌, List, [], ◌∷◌, ◌++◌, length, take, drop, Option, Some, refl, sym, ap, subst, ◌∙◌, arith, get_or, length-append}
 use Rattle.std.specs.Prelude.{slice_get}
-use Rattle.std.specs.Global.{Vec}
 use Rattle.std.proofs.lemmas.List.{append_assoc}
 use Rattle.std.proofs.lemmas.Option.{get_or_from_slice_get, slice_get-get_or}
 use Rattle.krb_aes.specs.Keys.{expanded_key}
 use Rattle.krb_aes.specs.Stealing.{cts}
 use Rattle.krb_base.specs.Bytes.{AreBytes}
+use Rattle.krb_der.specs.declared.address.HostAddress.{HostAddress}
 use Rattle.krb_der.specs.declared.body.Body.{Body}
 use Rattle.krb_der.specs.declared.private.Draft.{Draft}
-use Rattle.krb_der.specs.declared.safe.SafeDraft.{SafeDraft}
-use Rattle.krb_der.specs.declared.safe.SafeMsg.{SafeMsg}
 use Rattle.krb_der.specs.declared.message.Message.TheVariants as messages
 use Rattle.krb_der.specs.Body.{part}
-use Rattle.krb_der.specs.Message.{IsDraft, IsSafeDraft, Spells, safe_input}
-use Rattle.krb_der.specs.Safe.{checksum_field}
+use Rattle.krb_der.specs.Message.{IsDraft, Spells}
 use Rattle.krb_etype.specs.declared.etype.Etype.{Etype}
-use Rattle.krb_etype.specs.Etype.{checksum_number, confounder_size, number_of}
-use Rattle.krb_etype.specs.Keys.{checksum_key, encrypted, encryption_key, tag_of}
-use Rattle.krb_keys.specs.Hmac.{hmac96}
-use Rattle.krb_keys.proofs.HmacLemmas.{length-hmac96}
+use Rattle.krb_etype.specs.Etype.{confounder_size, number_of}
+use Rattle.krb_etype.specs.Keys.{encrypted, encryption_key, tag_of}
 use Rattle.krb_seal.specs.declared.session.Mode.{Mode}
-use Rattle.krb_seal.specs.declared.session.Mode.TheVariants.{Safe, Priv}
-use Rattle.krb_seal.specs.Seals.{SealsBody, safe_checksum, sealed_safe, unenciphered, unsigned}
+use Rattle.krb_seal.specs.declared.session.Mode.TheVariants.{Priv}
+use Rattle.krb_seal.specs.Seals.{SealsBody, unenciphered}
 use Rattle.krb_seal.proofs.Frames.{length-encrypted}
 use Rattle.krb_seal.specs.Body.{IsSmall}
 use Rattle.krb_seal.specs.Session.{HasShortAddresses}
@@ -30,11 +25,9 @@ use Rattle.krb_base.specs.Limits.{user_data_limit}
 use Rattle.krb_bulk.specs.declared.bulk.Bulk.{Bulk}
 use Rattle.krb_bulk.specs.declared.unsealed.Unsealed.{Unsealed}
 use Rattle.krb_bulk.specs.declared.private.Plain.{Plain}
-use Rattle.krb_bulk.specs.declared.safe.Unsummed.{Unsummed}
 use Rattle.krb_bulk.specs.declared.four.Four.{Four}
 use Rattle.krb_bulk.specs.Four.{AreEach, AreFrom}
-use Rattle.krb_seal.specs.Checksum.{IsCovered}
-use Rattle.krb_bulk.specs.BulkInside.{body_at, Enciphers, HasSum, IsLong, IsPlain, IsPlainAt, IsUnsummed, SealsAt}
+use Rattle.krb_bulk.specs.BulkInside.{body_at, Enciphers, IsLong, IsPlain, IsPlainAt, SealsAt}
 
 -- what holds of the message at an index holds of the message with it
 pub of_index : {A : Type 0} (P : A → Type 0) (xs : List A) (i : ℕ) (d : A) → P (get_or xs i d) → (x : A) → slice_get xs i ≡ Some x → P x
@@ -52,6 +45,13 @@ pub small_body : (b : Bulk) (k : ℕ) (m : Unsealed) (body : Body) → body ≡ 
     → IsSmall body
 small_body b k m body is short addresses =
     subst IsSmall (sym is) (record { user = short; sender = addresses.sender; receiver = addresses.receiver })
+
+-- a body between the addresses of a call is that of the session
+pub body_between : (b : Bulk) (k : ℕ) (m : Unsealed) (made : Body) → b.addresses.now.s_addr ≡ b.parts.session.now.s_addr → b.addresses.now.r_addr ≡ b.parts.session.now.r_addr
+    → made ≡ record (body_at b k m) { s_addr = b.addresses.now.s_addr; r_addr = b.addresses.now.r_addr } → made ≡ body_at b k m
+body_between b k m made sender receiver is =
+    is ∙ ap (λ (a : HostAddress). record (body_at b k m) { s_addr = a; r_addr = b.addresses.now.r_addr }) sender
+    ∙ ap (λ (a : Option HostAddress). record (body_at b k m) { r_addr = a }) receiver
 
 -- a text that begins with its confounder is long enough
 pub long_plain : (etype : Etype) (conf : List ℕ) (b : Body) (plain : Plain) → IsPlain etype conf b plain → IsLong plain
@@ -92,39 +92,10 @@ private_frame etype key conf b plain written tag frame p e t is =
       spelt = subst (λ (s : List ℕ). Spells (messages.Priv (record (unenciphered etype) { cipher = encrypted key text })) s) (sym same) (p.front (encrypted key text) long);
     }
 
--- a draft of what the message carries, and the bytes under its checksum
-pub unsummed_of : (etype : Etype) (conf : List ℕ) (made b : Body) (m : SafeMsg) (draft : SafeDraft) (fields : List ℕ) (input : Vec ℕ) → length conf ≡ confounder_size
-    → made ≡ b → m ≡ unsigned etype made → IsSafeDraft m m.cksum_type 12 draft → fields ≡ drop draft.start draft.bytes.items → IsCovered fields input.items
-    → IsUnsummed etype conf b (record { draft = draft; input = input })
-unsummed_of etype conf made b m draft fields input size same is d from covers =
-    let whole : m ≡ unsigned etype b = is ∙ ap (λ (x : Body). unsigned etype x) same in
-    let own : IsSafeDraft (unsigned etype b) (checksum_number etype) 12 draft = subst (λ (x : SafeMsg). IsSafeDraft x x.cksum_type 12 draft) whole d in
-    record { confounder = size; draft = own; input = covers (unsigned etype b) (sym (from ∙ own.fields)) }
-
--- the frame of a KRB-SAFE
-pub safe_frame : (etype : Etype) (key conf : List ℕ) (b : Body) (u : Unsummed) (sum frame : List ℕ) → IsUnsummed etype conf b u
-    → sum ≡ hmac96 (checksum_key key) u.input.items → HasSum etype u sum frame → SealsBody Safe (number_of etype) key conf b frame
-safe_frame etype key conf b u sum frame h is made =
-    let own : List ℕ = safe_checksum key (unsigned etype b) in
-    let same : sum ≡ own = is ∙ ap (λ (x : List ℕ). hmac96 (checksum_key key) x) h.input in
-    let whole : frame ≡ u.draft.bytes.items ++ checksum_field (checksum_number etype) own =
-    made ∙ ap (λ (x : List ℕ). u.draft.bytes.items ++ checksum_field (checksum_number etype) x) same in
-    let spelt : Spells (messages.Safe (sealed_safe etype key b)) frame =
-    subst (λ (s : List ℕ). Spells (messages.Safe (sealed_safe etype key b)) s) (sym whole)
-    (h.draft.spelt own (length-hmac96 (checksum_key key) (safe_input (unsigned etype b)))) in
-    record {
-      etype = etype;
-      known = refl;
-      body = spelt.in_range.body;
-      confounder = h.confounder;
-      plain = λ e. absurd (let no : Safe ≡ Priv = e in cc);
-      spelt = spelt;
-    }
-
 -- ---- of the messages of a call
 
 -- the message with an index
-message_at : {A : Type 0} (xs : List A) (i : ℕ) → i < length xs → (x : A) × (slice_get xs i ≡ Some x)
+pub message_at : {A : Type 0} (xs : List A) (i : ℕ) → i < length xs → (x : A) × (slice_get xs i ≡ Some x)
 message_at [] i lt = absurd (omega (arith, lt))
 message_at (x ∷ xs) i lt = (get_or (x ∷ xs) i x, slice_get-get_or (x ∷ xs) i x lt)
 

@@ -2,3 +2,4 @@ pub mod TurnLemmas
 pub mod FirstLemmas
 pub mod BulkLemmas
 pub mod ReadyLemmas
+pub mod SafeLemmas

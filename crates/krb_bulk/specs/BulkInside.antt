@@ -1,10 +1,11 @@
 -- Messages of one call, and what is made of each.
-use Rattle.std.specs.Prelude.{◌≡◌, ℕ, ◌+◌, ◌≤◌, List, ◌++◌, length, take, drop, Some, slice_get}
+use Rattle.std.specs.Prelude.{◌≡◌, ℕ, ◌+◌, ◌-◌, ◌≤◌, List, ◌++◌, length, take, drop, Some, slice_get}
 use Rattle.std.specs.Global.{Vec}
 use Rattle.krb_aes.specs.Keys.{expanded_key}
 use Rattle.krb_aes.specs.Stealing.{cts}
 use Rattle.krb_base.specs.Bytes.{AreBytes}
 use Rattle.krb_der.specs.declared.body.Body.{Body}
+use Rattle.krb_der.specs.declared.safe.SafeMsg.{SafeMsg}
 use Rattle.krb_der.specs.Body.{IsBody, part}
 use Rattle.krb_der.specs.Safe.{checksum_field}
 use Rattle.krb_der.specs.Message.{IsSafeDraft, Precedes, safe_input}
@@ -15,7 +16,7 @@ use Rattle.krb_etype.specs.HeldKeys.{fresh_keys}
 use Rattle.krb_etype.specs.Keys.{encryption_key, tag_of, checksum_key}
 use Rattle.krb_keys.specs.Hmac.{hmac96}
 use Rattle.krb_seal.specs.Mode.{purpose_of}
-use Rattle.krb_seal.specs.Seals.{body_of, unenciphered, unsigned}
+use Rattle.krb_seal.specs.Seals.{body_of, safe_checksum, unenciphered, unsigned}
 use Rattle.krb_seal.specs.Sealer.{SealerState}
 use Rattle.krb_seal.specs.Lent.{advanced_by}
 use Rattle.krb_seal.specs.Session.{HasShortAddresses}
@@ -37,10 +38,13 @@ sealer_of b = record {
   wiped = b.parts.keys.now.wiped;
 }
 
--- Its keys are a live sealer's for its mode, its addresses are short, and it can seal all of them.
+-- Its keys are a live sealer's for its mode, its addresses are those of its session and short, and it
+-- can seal all of them.
 pub record IsReady (b : Bulk) : Type 0 where
   pub keys : b.parts.keys.now
       ≡ fresh_keys b.parts.keys.now.key Sealer (purpose_of b.parts.session.now.mode)
+  pub sender : b.addresses.now.s_addr ≡ b.parts.session.now.s_addr
+  pub receiver : b.addresses.now.r_addr ≡ b.parts.session.now.r_addr
   pub addresses : HasShortAddresses b.parts.session.now
   pub each : CanSealInTurn (sealer_of b) b.messages.now
 
@@ -97,22 +101,49 @@ pub record Enciphers (key : List ℕ) (plain : Plain) (written : List ℕ) : Typ
 
 -- ---- KRB-SAFE
 
--- A KRB-SAFE that has no checksum yet, and the bytes under its checksum. The confounder goes nowhere.
+-- A KRB-SAFE that has no checksum yet. The confounder goes nowhere.
 pub record IsUnsummed (etype : Etype) (conf : List ℕ) (b : Body) (unsummed : Unsummed)
     : Type 0 where
   pub confounder : length conf ≡ confounder_size
   pub draft : IsSafeDraft (unsigned etype b) (checksum_number etype) 12 unsummed.draft
-  pub input : unsummed.input.items ≡ safe_input (unsigned etype b)
+
+-- It is that of the message with this index.
+abbrev pub IsUnsummedAt : Bulk → ℕ → Unsummed → Type 0
+IsUnsummedAt b k u = OfMessage b k (λ m. IsUnsummed b.parts.etype m.confounder (body_at b k m) u)
+
+-- The bytes of a buffer that belong to it.
+abbrev pub input_of : List ℕ → Unsummed → List ℕ
+input_of inputs u = take (u.end - u.start) (drop u.start inputs)
+
+pub record LiesIn (inputs : List ℕ) (u : Unsummed) : Type 0 where
+  pub order : u.start ≤ u.end
+  pub within : u.end ≤ length inputs
+
+-- They are those under the checksum of a message.
+pub record HasInput (m : SafeMsg) (inputs : List ℕ) (u : Unsummed) : Type 0 where
+  pub lies : LiesIn inputs u
+  pub input : input_of inputs u ≡ safe_input m
+
+-- They are those of the message with this index.
+abbrev pub HasInputAt : Bulk → List ℕ → ℕ → Unsummed → Type 0
+HasInputAt b inputs k u =
+    OfMessage b k (λ m. HasInput (unsigned b.parts.etype (body_at b k m)) inputs u)
+
+-- Bytes were appended.
+abbrev pub Extends : List ℕ → List ℕ → Type 0
+Extends old new = (more : List ℕ) × (new ≡ old ++ more)
 
 -- The bytes are this KRB-SAFE with this checksum.
 abbrev pub HasSum : Etype → Unsummed → List ℕ → List ℕ → Type 0
 HasSum etype u sum bytes =
     bytes ≡ u.draft.bytes.items ++ checksum_field (checksum_number etype) sum
 
--- They are the checksums of these messages.
-abbrev pub AreSums : List ℕ → Four Unsummed → Four (List ℕ) → Type 0
-AreSums key = AreBoth (λ u sum. sum ≡ hmac96 (checksum_key key) u.input.items)
+-- They are the checksums of what belongs to these messages.
+abbrev pub AreSums : List ℕ → List ℕ → Four Unsummed → Four (List ℕ) → Type 0
+AreSums key inputs = AreBoth (λ u sum. sum ≡ hmac96 (checksum_key key) (input_of inputs u))
 
--- It is that of the message with this index.
-abbrev pub IsUnsummedAt : Bulk → ℕ → Unsummed → Type 0
-IsUnsummedAt b k u = OfMessage b k (λ m. IsUnsummed b.parts.etype m.confounder (body_at b k m) u)
+-- It is the checksum of the message with this index.
+abbrev pub IsSumAt : Bulk → ℕ → List ℕ → Type 0
+IsSumAt b k sum =
+    OfMessage b k (λ m.
+    sum ≡ safe_checksum b.parts.keys.now.key (unsigned b.parts.etype (body_at b k m)))

@@ -1,14 +1,14 @@
 //! Messages of one call, one by one.
 
-ghost use Rattle.std.specs.Prelude.{◌≡◌, ◌<◌, length, IfOk};
+ghost use Rattle.std.specs.Prelude.{◌≡◌, ◌<◌, length, IfOk, Some};
+ghost use Rattle.krb_der.specs.Moment.{secs_of, usec_of};
 ghost use Rattle.krb_der.specs.Body.{InRange};
 ghost use Rattle.krb_seal.specs.Body.{IsSmall};
-ghost use Rattle.krb_seal.specs.Seals.{body_of};
 ghost use Rattle.krb_bulk.specs.BulkInside.{CarriesAt, IsReady, SealsAt};
 
 use crate::unsealed::Unsealed;
-use krb_der::{BodyRef, Moment};
-use krb_seal::{SealerParts, Session, frame_of};
+use krb_der::{Addresses, BodyRef, Moment};
+use krb_seal::{SealerParts, frame_of};
 use std::alloc::{AllocError, Global};
 
 /// Messages of one call, and what seals them.
@@ -18,14 +18,28 @@ pub struct Bulk<'a, 'b, 'c> {
     /// The number of the first.
     pub next: u64,
     pub messages: &'b [Unsealed<'c>],
+    /// The addresses of its session.
+    pub addresses: &'b Addresses<'a>,
 }
 
-/// What a session's message carries.
-fn body_of<'a>(session: &'a Session, user_data: &'a [u8], at: Moment, number: u32) -> BodyRef<'a>
-    ensures body { result ≡ body_of session.now number user_data.now at }
+/// What a message between these addresses carries.
+fn body_of<'a>(
+    addresses: &'a Addresses<'_>,
+    user_data: &'a [u8],
+    at: Moment,
+    number: u32,
+) -> BodyRef<'a>
+    ensures body { result ≡ record {
+      user_data = user_data.now;
+      time = Some (secs_of at);
+      usec = Some (usec_of at);
+      seq = Some number;
+      s_addr = addresses.now.s_addr;
+      r_addr = addresses.now.r_addr;
+    } }
     ensures range { InRange result }
 {
-    BodyRef::new(user_data, at, number, &session.s_addr, &session.r_addr)
+    BodyRef::between(user_data, at, number, addresses)
 }
 
 impl Bulk<'_, '_, '_> {
@@ -39,7 +53,7 @@ impl Bulk<'_, '_, '_> {
     {
         let message = &self.messages[index];
         let number = (self.next + index as u64) as u32;
-        body_of(self.parts.session, message.user_data, message.at, number)
+        body_of(self.addresses, message.user_data, message.at, number)
     }
 
     /// The frame of the message with this index.

@@ -16,6 +16,7 @@ use crate::four::Four;
 use crate::many_error::ManyError;
 use crate::unsealed::Unsealed;
 use krb_base::{LAST_NUMBER, USER_DATA_LIMIT};
+use krb_der::Addresses;
 use krb_keys::BatchMac;
 use krb_seal::{AesSealer, Mode, SealError, Sealer};
 use std::alloc::{AllocError, Global};
@@ -200,10 +201,14 @@ pub fn frames_of<E>(
     if messages.is_empty() {
         return Ok(Vec::new(alloc));
     }
+    let parts = sealer.parts();
+    let session = parts.session;
+    let addresses = Addresses::new(alloc, &session.s_addr, &session.r_addr)?;
     let bulk = Bulk {
-        parts: sealer.parts(),
+        parts,
         next,
         messages,
+        addresses: &addresses,
     };
     Ok(bulk.frames(alloc)?)
 }

@@ -1,76 +1,154 @@
 //! KRB-SAFE, eight at a time.
 
-ghost use Rattle.std.specs.Prelude.{◌≡◌, ◌≤◌, ◌+◌, ◌<◌, ℕ, List, length, IfOk};
+ghost use Rattle.std.specs.Prelude.{◌≡◌, ◌≤◌, ◌+◌, ◌<◌, ℕ, List, [], length, IfOk, OnOk};
 ghost use Rattle.krb_etype.specs.Keys.{checksum_key};
 ghost use Rattle.krb_keys.specs.BatchMac.{HoldsBatchKey};
 ghost use Rattle.krb_seal.specs.declared.session.Mode.TheVariants.{Safe};
-ghost use Rattle.krb_bulk.specs.Four.{AreFrom};
-ghost use Rattle.krb_bulk.specs.BulkInside.{AreSums, HasSum, IsReady, IsUnsummedAt, SealsAt};
+ghost use Rattle.krb_bulk.specs.Four.{AreEach, AreFrom};
+ghost use Rattle.krb_bulk.specs.BulkInside.{AreSums, Extends, HasInputAt, HasSum, IsReady, IsSumAt, IsUnsummedAt, LiesIn, SealsAt, input_of};
 
 use crate::bulk::Bulk;
 use crate::four::{Four, eight_codes};
 use crate::unsealed::known_confounder;
-use krb_der::{SafeDraft, draft_safe};
+use krb_der::{HostAddress, SafeDraft, draft_safe};
 use krb_etype::CODE_SIZE;
 use krb_keys::BatchMac;
-use krb_seal::{checksum_input, unsigned, within_limit};
+use krb_seal::{put_checksum_input, unsigned, within_limit};
 use std::alloc::{AllocError, Global};
 
-/// A KRB-SAFE that has no checksum yet, and the bytes under its checksum (RFC 4120 section 5.6.1).
+/// The most bytes that a message has under its checksum beside its addresses and its data, if these are
+/// few.
+const AROUND_FEW: usize = 72;
+
+/// The same of other data.
+const AROUND_MANY: usize = 85;
+
+/// The bytes of a field with an address beside the address's own, if these are few.
+const AROUND_ADDRESS: usize = 13;
+
+/// The most bytes that a message with so many bytes of data has under its checksum beside its addresses.
+fn size_around(data: usize) -> usize {
+    let around = if data < 128 { AROUND_FEW } else { AROUND_MANY };
+    data.saturating_add(around)
+}
+
+/// The bytes of a field with an address, if its own are few.
+fn address_size(address: &HostAddress) -> usize {
+    address
+        .bytes
+        .as_slice()
+        .len()
+        .saturating_add(AROUND_ADDRESS)
+}
+
+/// A KRB-SAFE that has no checksum yet. The bytes under its checksum (RFC 4120 section 5.6.1) lie in
+/// a buffer, which eight messages share.
 #[derive(Drop)]
 pub struct Unsummed {
     draft: SafeDraft,
-    input: Vec<u8>,
+    /// Where these bytes begin in the buffer.
+    start: usize,
+    /// Where they end.
+    end: usize,
+}
+
+impl Unsummed {
+    /// The bytes under its checksum.
+    fn input<'a>(&self, inputs: &'a [u8]) -> &'a [u8]
+        requires { LiesIn inputs.now self.now }
+        ensures { result.now ≡ input_of inputs.now self.now }
+    {
+        &inputs[self.start..self.end]
+    }
 }
 
 /// The checksums of eight messages, side by side.
 fn eight_sums(
     mac: &BatchMac,
+    inputs: &[u8],
     first: &Four<Unsummed>,
     second: &Four<Unsummed>,
 ) -> (Four<[u8; CODE_SIZE]>, Four<[u8; CODE_SIZE]>)
+    requires first { AreEach (LiesIn inputs.now) first.now }
+    requires second { AreEach (LiesIn inputs.now) second.now }
     ensures first { (key : List ℕ) → HoldsBatchKey mac.now (checksum_key key)
-        → AreSums key first.now result.0 }
+        → AreSums key inputs.now first.now result.0 }
     ensures second { (key : List ℕ) → HoldsBatchKey mac.now (checksum_key key)
-        → AreSums key second.now result.1 }
+        → AreSums key inputs.now second.now result.1 }
 {
     let sums = mac.hmac96(&[
-        first.a.input.as_slice(),
-        first.b.input.as_slice(),
-        first.c.input.as_slice(),
-        first.d.input.as_slice(),
-        second.a.input.as_slice(),
-        second.b.input.as_slice(),
-        second.c.input.as_slice(),
-        second.d.input.as_slice(),
+        first.a.input(inputs),
+        first.b.input(inputs),
+        first.c.input(inputs),
+        first.d.input(inputs),
+        second.a.input(inputs),
+        second.b.input(inputs),
+        second.c.input(inputs),
+        second.d.input(inputs),
     ]);
     eight_codes(&sums)
 }
 
 impl Bulk<'_, '_, '_> {
-    /// The KRB-SAFE of the message with this index, which has no checksum yet.
-    fn unsummed(&self, alloc: Global, index: usize) -> Result<Unsummed, AllocError>
+    /// A buffer with room for the bytes under the checksums of eight messages from this index on. It
+    /// grows if they have more.
+    fn inputs(&self, alloc: Global, from: usize) -> Result<Vec<u8>, AllocError>
+        requires { from + 8 ≤ length self.now.messages.now }
+        ensures { IfOk result (λ v. v.items ≡ []) }
+    {
+        let session = self.parts.session;
+        let receiver = session.r_addr.as_ref().map_or(0, address_size);
+        let addresses = address_size(&session.s_addr).saturating_add(receiver);
+        let mut size = addresses.saturating_mul(8);
+        for message in &self.messages[from..from + 8] {
+            size = size.saturating_add(size_around(message.user_data.len()));
+        }
+        Vec::with_capacity(alloc, size)
+    }
+
+    /// The KRB-SAFE of the message with this index, which has no checksum yet. The bytes under its
+    /// checksum are appended to a buffer.
+    fn unsummed(
+        &self,
+        alloc: Global,
+        inputs: &mut Vec<u8>,
+        index: usize,
+    ) -> Result<Unsummed, AllocError>
         requires ready { IsReady self.now }
         requires index { index < length self.now.messages.now }
-        ensures { IfOk result (IsUnsummedAt self.now index) }
+        ensures unsummed { IfOk result (IsUnsummedAt self.now index) }
+        ensures input { IfOk result (HasInputAt self.now inputs.new.items index) }
+        ensures kept { OnOk result (Extends inputs.old.items inputs.new.items) }
     {
         known_confounder(&self.messages[index].confounder);
         let message = unsigned(self.parts.etype, self.body(index));
         let draft = within_limit(draft_safe(alloc, &message, CODE_SIZE))?;
-        let input = checksum_input(alloc, draft.fields())?;
-        Ok(Unsummed { draft, input })
+        let start = inputs.len();
+        put_checksum_input(inputs, draft.fields())?;
+        Ok(Unsummed {
+            draft,
+            start,
+            end: inputs.len(),
+        })
     }
 
     /// Those of four messages from this index on.
-    fn four_unsummed(&self, alloc: Global, from: usize) -> Result<Four<Unsummed>, AllocError>
+    fn four_unsummed(
+        &self,
+        alloc: Global,
+        inputs: &mut Vec<u8>,
+        from: usize,
+    ) -> Result<Four<Unsummed>, AllocError>
         requires ready { IsReady self.now }
         requires from { from + 4 ≤ length self.now.messages.now }
-        ensures { IfOk result (AreFrom (IsUnsummedAt self.now) from) }
+        ensures unsummed { IfOk result (AreFrom (IsUnsummedAt self.now) from) }
+        ensures input { IfOk result (AreFrom (HasInputAt self.now inputs.new.items) from) }
+        ensures kept { OnOk result (Extends inputs.old.items inputs.new.items) }
     {
-        let a = self.unsummed(alloc, from)?;
-        let b = self.unsummed(alloc, from + 1)?;
-        let c = self.unsummed(alloc, from + 2)?;
-        let d = self.unsummed(alloc, from + 3)?;
+        let a = self.unsummed(alloc, inputs, from)?;
+        let b = self.unsummed(alloc, inputs, from + 1)?;
+        let c = self.unsummed(alloc, inputs, from + 2)?;
+        let d = self.unsummed(alloc, inputs, from + 3)?;
         Ok(Four { a, b, c, d })
     }
 
@@ -78,8 +156,9 @@ impl Bulk<'_, '_, '_> {
     fn summed(&self, message: Unsummed, sum: &[u8; CODE_SIZE]) -> Result<Vec<u8>, AllocError>
         ensures { IfOk result (λ v. HasSum self.now.parts.etype message sum.now v.items) }
     {
-        let Unsummed { draft, input: _ } = message;
-        draft.with_checksum(self.parts.etype.checksum_number(), sum)
+        message
+            .draft
+            .with_checksum(self.parts.etype.checksum_number(), sum)
     }
 
     /// The frames of four messages from this index on, with their checksums.
@@ -93,7 +172,7 @@ impl Bulk<'_, '_, '_> {
         requires mode { self.now.parts.session.now.mode ≡ Safe }
         requires from { from + 4 ≤ length self.now.messages.now }
         requires messages { AreFrom (IsUnsummedAt self.now) from messages }
-        requires sums { AreSums self.now.parts.keys.now.key messages sums.now }
+        requires sums { AreFrom (IsSumAt self.now) from sums.now }
         ensures { IfOk result (AreFrom (λ k v. SealsAt self.now k v.items) from) }
     {
         let Four { a, b, c, d } = messages;
@@ -120,9 +199,10 @@ impl Bulk<'_, '_, '_> {
         ensures second { IfOk result (λ r.
             AreFrom (λ k v. SealsAt self.now k v.items) (from + 4) r.1) }
     {
-        let first = self.four_unsummed(alloc, from)?;
-        let second = self.four_unsummed(alloc, from + 4)?;
-        let (sums, others) = eight_sums(mac, &first, &second);
+        let mut inputs = self.inputs(alloc, from)?;
+        let first = self.four_unsummed(alloc, &mut inputs, from)?;
+        let second = self.four_unsummed(alloc, &mut inputs, from + 4)?;
+        let (sums, others) = eight_sums(mac, &inputs, &first, &second);
         let first = self.four_summed(from, first, &sums)?;
         let second = self.four_summed(from + 4, second, &others)?;
         Ok((first, second))

@@ -1,6 +1,7 @@
 -- Sizes by lengths alone are those of the spellings.
 use Rattle.std.proofs.Common.{◌≡◌, ℕ, ◌+◌, ℤ, List, length, Option, Some, None, refl, sym, ap, ◌∙◌, arith, length-append}
 use Rattle.std.specs.List.{concat}
+use Rattle.krb_der.specs.declared.address.HostAddress.{HostAddress}
 use Rattle.krb_der.specs.declared.body.Body.{Body}
 use Rattle.krb_der.specs.declared.safe.SafeMsg.{SafeMsg}
 use Rattle.krb_der.specs.declared.private.PrivMsg.{PrivMsg}
@@ -11,6 +12,7 @@ use Rattle.krb_tlv.specs.Integer.{integer, natural}
 use Rattle.krb_der.specs.KerberosTime.{time}
 use Rattle.krb_der.specs.Typed.{typed_fields, typed_octets}
 use Rattle.krb_der.specs.Address.{host_address}
+use Rattle.krb_der.specs.Addresses.{address_fields}
 use Rattle.krb_der.specs.Body.{body, body_fields}
 use Rattle.krb_der.specs.Safe.{safe_fields}
 use Rattle.krb_der.specs.Message.{safe}
@@ -33,6 +35,11 @@ pub length-typed : (kind : ℤ) (bytes : List ℕ) → length (typed_octets kind
 unfolding typed_octets
 length-typed kind bytes =
     size-tagged sequence_tag (concat (typed_fields kind bytes)) ∙ ap element_size (length-typed_fields kind bytes)
+
+-- the fields of both addresses
+pub length-address_fields : (s : HostAddress) (r : Option HostAddress) → length (address_fields s r) ≡ element_size (length (host_address s)) + length (optional 0 host_address r)
+length-address_fields s r =
+    grind (arith, length-append, size-tagged, length-field (context 5) host_address r)
 
 pub length-body_fields : (b : Body) → length (concat (body_fields b)) ≡ body_fields_size b (length b.user_data)
 length-body_fields b =

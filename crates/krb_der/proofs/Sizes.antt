@@ -1,5 +1,5 @@
 -- What tags, lengths and numbers take.
-use Rattle.std.proofs.Common.{◌≡◌, ◌⊎◌, inl, inr, ℕ, ◌+◌, ◌^◌, ◌<◌, ◌≤◌, ℤ, pos, negsuc, List, [], ◌∷◌, length, Option, Some, None, refl, lit≤, arith, length-append}
+use Rattle.std.proofs.Common.{◌≡◌, ◌⊎◌, inl, inr, ℕ, ◌+◌, ◌*◌, ◌^◌, ◌<◌, ◌≤◌, ℤ, pos, negsuc, List, [], ◌∷◌, length, Option, Some, None, refl, lit≤, arith, length-append}
 use Rattle.std.specs.List.{concat}
 use Rattle.krb_der.specs.declared.address.HostAddress.{HostAddress}
 use Rattle.krb_der.specs.declared.body.Body.{Body}
@@ -12,6 +12,9 @@ use Rattle.krb_der.specs.Typed.{typed_fields, typed_octets}
 use Rattle.krb_time.specs.Time.{kerberos_time}
 use Rattle.krb_der.specs.KerberosTime.{time}
 use Rattle.krb_der.specs.Address.{host_address}
+use Rattle.krb_der.specs.Addresses.{address_fields}
+use Rattle.krb_base.specs.Limits.{frame_limit}
+use Rattle.std.specs.Prelude.{IfSome}
 use Rattle.krb_der.specs.Body.{body, body_fields}
 use Rattle.krb_der.specs.Safe.{checksum, safe_fields, with_checksum}
 use Rattle.krb_der.specs.Private.{encrypted_fields, encrypted_data, private_fields}
@@ -65,6 +68,29 @@ typed-small kind bytes =
 address-small : (tag : ℕ) (o : Option HostAddress) → length (optional tag host_address o) ≤ optional_size o + 35
 address-small tag None = omega arith
 address-small tag (Some a) = omega (arith, tagged-short tag (host_address a), typed-small a.kind a.bytes)
+
+-- the fields of both addresses
+pub addresses-small : (s : HostAddress) (r : Option HostAddress) → length s.bytes ≤ frame_limit → IfSome r (λ a. length a.bytes ≤ frame_limit)
+    → length (address_fields s r) ≤ 2 * frame_limit + 80
+addresses-small s None sender receiver =
+    omega (
+      arith,
+      typed-small s.kind s.bytes,
+      tagged-short (context 4) (host_address s),
+      length-append (tagged (context 4) (host_address s)) [],
+      sender,
+    )
+addresses-small s (Some r) sender receiver =
+    omega (
+      arith,
+      typed-small s.kind s.bytes,
+      tagged-short (context 4) (host_address s),
+      typed-small r.kind r.bytes,
+      tagged-short (context 5) (host_address r),
+      length-append (tagged (context 4) (host_address s)) (tagged (context 5) (host_address r)),
+      sender,
+      receiver,
+    )
 
 body-small : (b : Body) → length (body b) ≤ carried b + 145
 unfolding body

@@ -5,6 +5,7 @@ pub mod Error
 pub mod KerberosTime
 pub mod Typed
 pub mod Address
+pub mod Addresses
 pub mod Body
 pub mod Safe
 pub mod Private

@@ -8,6 +8,7 @@ ghost use Rattle.krb_time.specs.Moment.{secs_of, usec_of};
 ghost use Rattle.krb_time.specs.Time.{IsSecond};
 ghost use Rattle.krb_der.specs.KerberosTime;
 ghost use Rattle.krb_der.specs.Address.{host_address, IsAddress};
+ghost use Rattle.krb_der.specs.Addresses.{address_fields};
 ghost use Rattle.krb_der.specs.Body.{InRange, IsBody, body, body_fields};
 ghost use Rattle.krb_der.specs.Reading.{body_with};
 ghost use Rattle.krb_der.specs.Size.{HasAddressesWithinLimit};
@@ -15,6 +16,7 @@ ghost use Rattle.krb_tlv.specs.Writing.{IsShort};
 ghost use Rattle.krb_der.specs.Writing.{IsShortBody, body_fields_size, body_size};
 
 use crate::address::{AddressRef, HostAddress, known_address};
+use crate::addresses::Addresses;
 use crate::tag;
 use crate::typed::{typed_size, write_typed_field};
 use krb_base::{Bytes, FRAME_LIMIT};
@@ -113,6 +115,30 @@ fn write_optional_address(
     }
 }
 
+/// How many bytes the fields of both addresses have.
+pub fn addresses_size(s_addr: &AddressRef<'_>, r_addr: &Option<AddressRef<'_>>) -> usize
+    requires sender { IsShort s_addr.now.bytes }
+    requires receiver { IfSome r_addr.now (λ a. IsShort a.bytes) }
+    ensures value { result ≡ length (address_fields s_addr.now r_addr.now) }
+    ensures bound { result ≤ 2 * frame_limit + 80 }
+{
+    size_around(typed_size(s_addr.kind(), s_addr.bytes())) + optional_address_size(r_addr)
+}
+
+/// Adds the fields of both addresses.
+pub fn write_addresses(
+    out: &mut Writer,
+    s_addr: &AddressRef<'_>,
+    r_addr: &Option<AddressRef<'_>>,
+) -> Result<(), AllocError>
+    requires sender { IsShort s_addr.now.bytes }
+    requires receiver { IfSome r_addr.now (λ a. IsShort a.bytes) }
+    ensures { OnOk result (out.new ≡ out.old ++ address_fields s_addr.now r_addr.now) }
+{
+    write_typed_field(out, tag::FIELD_4, s_addr.kind(), s_addr.bytes())?;
+    write_optional_address(out, tag::FIELD_5, r_addr)
+}
+
 // A law: the number of an address is an Int32, as its type says. It does nothing when it runs.
 fn known_optional_address(address: &Option<AddressRef<'_>>)
     ensures { IfSome address.now IsAddress }
@@ -158,9 +184,13 @@ pub struct BodyRef<'a> {
     pub(crate) seq: Option<u32>,
     pub(crate) s_addr: AddressRef<'a>,
     pub(crate) r_addr: Option<AddressRef<'a>>,
+    /// The fields of both addresses, where they are encoded already.
+    pub(crate) addresses: Option<&'a [u8]>,
 }
 
 impl<'a> Model for BodyRef<'a> {
+    ghost use Rattle.std.specs.Prelude.{◌≡◌, IfSome};
+    ghost use Rattle.krb_der.specs.Addresses.{address_fields};
     ghost use Rattle.krb_der.specs.declared.body.Body.{Body};
 
     ghost Value = { Body };
@@ -173,10 +203,12 @@ impl<'a> Model for BodyRef<'a> {
       s_addr = b.s_addr;
       r_addr = b.r_addr;
     } };
+
+    ghost invariant = { λ b. IfSome b.addresses (λ a. a.now ≡ address_fields b.s_addr b.r_addr) };
 }
 
 /// An address that may be absent, borrowed.
-fn borrowed_address(address: &Option<HostAddress>) -> Option<AddressRef<'_>>
+pub fn borrowed_address(address: &Option<HostAddress>) -> Option<AddressRef<'_>>
     ensures { result ≡ address.now }
 {
     match address {
@@ -210,6 +242,7 @@ impl Body {
             seq: self.seq,
             s_addr: self.s_addr.borrowed(),
             r_addr: borrowed_address(&self.r_addr),
+            addresses: None,
         }
     }
 }
@@ -239,6 +272,36 @@ impl<'a> BodyRef<'a> {
             seq: Some(seq),
             s_addr: s_addr.borrowed(),
             r_addr: borrowed_address(r_addr),
+            addresses: None,
+        }
+    }
+
+    /// The body with this data, at a timestamp and a sequence number, between addresses that are
+    /// encoded already (RFC 4120 sections 5.6.1 and 5.7.1): the same as [`BodyRef::new`] of them.
+    pub fn between(
+        user_data: &'a [u8],
+        at: Moment,
+        seq: u32,
+        addresses: &'a Addresses<'_>,
+    ) -> BodyRef<'a>
+        ensures { result ≡ record {
+          user_data = user_data.now;
+          time = Some (secs_of at);
+          usec = Some (usec_of at);
+          seq = Some seq;
+          s_addr = addresses.now.s_addr;
+          r_addr = addresses.now.r_addr;
+        } }
+    {
+        let (s_addr, r_addr, encoded) = addresses.encoded();
+        BodyRef {
+            user_data,
+            time: Some(at.secs()),
+            usec: Some(at.usec()),
+            seq: Some(seq),
+            s_addr: s_addr.borrowed(),
+            r_addr: borrowed_address(r_addr),
+            addresses: Some(encoded),
         }
     }
 
@@ -322,6 +385,18 @@ impl<'a> BodyRef<'a> {
         known_optional_address(&self.r_addr);
     }
 
+    /// How many bytes the fields of both addresses have.
+    fn addresses_size(&self) -> usize
+        requires { HasAddressesWithinLimit self.now }
+        ensures value { result ≡ length (address_fields self.now.s_addr self.now.r_addr) }
+        ensures bound { result ≤ 2 * frame_limit + 80 }
+    {
+        match self.addresses {
+            Some(encoded) => encoded.len(),
+            None => addresses_size(&self.s_addr, &self.r_addr),
+        }
+    }
+
     fn fields_size_with(&self, len: usize) -> usize
         requires limit { len ≤ frame_limit }
         requires addresses { HasAddressesWithinLimit self.now }
@@ -333,8 +408,7 @@ impl<'a> BodyRef<'a> {
             + optional_time_size(self.time)
             + natural_field_size(self.usec)
             + natural_field_size(self.seq)
-            + size_around(typed_size(self.s_addr.kind(), self.s_addr.bytes()))
-            + optional_address_size(&self.r_addr)
+            + self.addresses_size()
     }
 
     /// How many bytes it has with so many bytes of data in place of its own.
@@ -368,6 +442,18 @@ impl<'a> BodyRef<'a> {
         size_around(self.fields_size())
     }
 
+    /// Adds the fields of both addresses.
+    fn write_addresses(&self, out: &mut Writer) -> Result<(), AllocError>
+        requires { HasAddressesWithinLimit self.now }
+        ensures { OnOk result (out.new
+            ≡ out.old ++ address_fields self.now.s_addr self.now.r_addr) }
+    {
+        match self.addresses {
+            Some(encoded) => out.put(encoded),
+            None => write_addresses(out, &self.s_addr, &self.r_addr),
+        }
+    }
+
     /// Adds its fields.
     fn write_fields(&self, out: &mut Writer) -> Result<(), AllocError>
         requires short { IsShortBody self.now }
@@ -378,8 +464,7 @@ impl<'a> BodyRef<'a> {
         write_optional_time(out, tag::FIELD_1, self.time)?;
         write_natural_field(out, tag::FIELD_2, self.usec)?;
         write_natural_field(out, tag::FIELD_3, self.seq)?;
-        write_typed_field(out, tag::FIELD_4, self.s_addr.kind(), self.s_addr.bytes())?;
-        write_optional_address(out, tag::FIELD_5, &self.r_addr)
+        self.write_addresses(out)
     }
 
     /// Adds it as the content of an element with this tag; its fields have so many bytes.
@@ -395,8 +480,7 @@ impl<'a> BodyRef<'a> {
         requires bound { fields ≤ 3 * frame_limit + 200 }
         ensures { OnOk result (out.new ≡ out.old ++ tagged tag (body self.now)) }
     {
-        out.begin(tag, size_around(fields))?;
-        out.begin(tag::SEQUENCE, fields)?;
+        out.begin_two(tag, tag::SEQUENCE, fields)?;
         self.write_fields(out)
     }
 }

@@ -83,6 +83,7 @@ pub fn read_after<'a>(user_data: &'a [u8], bytes: &'a [u8]) -> Option<BodyRef<'a
         seq,
         s_addr,
         r_addr,
+        addresses: None,
     })
 }
 

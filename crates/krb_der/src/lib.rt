@@ -17,6 +17,7 @@
 #![tactic(auto)]
 
 mod address;
+mod addresses;
 mod body;
 mod body_reading;
 mod error;
@@ -29,6 +30,7 @@ mod tag;
 mod typed;
 
 pub use address::{AddressRef, HostAddress};
+pub use addresses::Addresses;
 pub use body::{Body, BodyRef};
 pub use error::DerError;
 pub use krb_base::Bytes;

@@ -3,7 +3,9 @@
 ghost use Rattle.std.specs.Prelude.{◌≡◌, ◌<◌, ◌≤◌, ◌+◌, ◌*◌, ◌++◌, [], length, drop, IfOk, IfSome, OnOk};
 ghost use Rattle.krb_base.specs.Limits.{frame_limit};
 ghost use Rattle.krb_der.specs.declared.message.Message.TheVariants.{Safe};
-ghost use Rattle.krb_tlv.specs.Integer.{IsInt32};
+ghost use Rattle.krb_tlv.specs.Element.{tagged};
+ghost use Rattle.krb_tlv.specs.Integer.{integer, IsInt32};
+ghost use Rattle.krb_tlv.specs.Tag.{context};
 ghost use Rattle.krb_time.specs.Time.{IsSecond};
 ghost use Rattle.std.specs.List.{concat};
 ghost use Rattle.krb_der.specs.Body.{InRange, IsBody, body_fields};
@@ -32,6 +34,22 @@ use std::marker::Model;
 /// The last field of a KRB-SAFE in the bytes under its checksum: checksum type 0 and an empty
 /// checksum (RFC 4120 section 5.6.1).
 const NO_CHECKSUM: [u8; 13] = [0xA3, 11, 0x30, 9, 0xA0, 3, 0x02, 1, 0, 0xA1, 2, 0x04, 0];
+
+/// The fields pvno and msg-type of a KRB-SAFE (RFC 4120 section 5.6.1): 5 and 20.
+const NUMBERS: [u8; 10] = [0xA0, 3, 0x02, 1, 5, 0xA1, 3, 0x02, 1, 20];
+
+/// Adds the fields pvno and msg-type.
+#[tactic(auto, unfolding(krb_tlv::specs::Element::tagged, krb_tlv::specs::Element::header, krb_tlv::specs::Length::length_octets, krb_tlv::specs::Integer::int_octets))]
+fn write_numbers(out: &mut Writer, pvno: &i32, msg_type: &i32) -> Result<(), AllocError>
+    ensures { OnOk result (out.new ≡ out.old ++ (tagged (context 0) (integer pvno.now)
+        ++ tagged (context 1) (integer msg_type.now))) }
+{
+    if *pvno == 5 && *msg_type == 20 {
+        return out.put(&NUMBERS);
+    }
+    write_int32_field(out, tag::FIELD_0, pvno)?;
+    write_int32_field(out, tag::FIELD_1, msg_type)
+}
 
 /// A message KRB-SAFE (RFC 4120 section 5.6.1).
 #[derive(Debug, Drop)]
@@ -297,8 +315,7 @@ impl<'a> SafeRef<'a> {
         requires bound { body ≤ 3 * frame_limit + 200 }
         ensures { OnOk result (out.new ≡ out.old ++ before_checksum self.now) }
     {
-        write_int32_field(out, tag::FIELD_0, &self.pvno)?;
-        write_int32_field(out, tag::FIELD_1, &self.msg_type)?;
+        write_numbers(out, &self.pvno, &self.msg_type)?;
         self.body.write_in(out, tag::FIELD_2, body)
     }
 
@@ -316,8 +333,7 @@ impl<'a> SafeRef<'a> {
     {
         let content = size_around(fields);
         let mut out = Writer::with_capacity(alloc, size_around(content))?;
-        out.begin(tag::KRB_SAFE, content)?;
-        out.begin(tag::SEQUENCE, fields)?;
+        out.begin_two(tag::KRB_SAFE, tag::SEQUENCE, fields)?;
         let start = out.len();
         self.write_before_checksum(&mut out, body)?;
         Ok(SafeDraft {

@@ -14,7 +14,7 @@ use frames::{PRIV_17, PRIV_17_OTHER, PRIV_18, SAFE_17, SAFE_18};
 use krb_der::{Bytes, HostAddress, Moment};
 use krb_seal::{
     Aes128Sealer, Aes256Sealer, Expect, Mode, Opener, Refusal, SealError, Sealer, Session,
-    SessionKey, SessionSealer, Unopened,
+    SessionKey, SessionSealer, Unopened, checksum_input, put_checksum_input,
 };
 use std::alloc::{AllocError, Global};
 use std::process::Abort;
@@ -135,5 +135,28 @@ fn frames_are_those_of_another_sealer(rt: HostRuntime) -> Result<(), Fail> {
         assert_same(&rt, data.as_slice(), b"Dhi".as_slice());
         assert_misordered(&rt, opener.unseal_telling(rt.alloc(), expected, 8, now));
     }
+    Ok(())
+}
+
+/// What stands before the fields of `SAFE_17` under its checksum, worked out by hand.
+const BEFORE_FIELDS: [u8; 4] = [0x74, 0x52, 0x30, 0x50];
+
+/// What stands after them: checksum type 0 and an empty checksum (RFC 4120 section 5.6.1).
+const AFTER_FIELDS: [u8; 13] = [
+    0xa3, 0x0b, 0x30, 0x09, 0xa0, 0x03, 0x02, 0x01, 0x00, 0xa1, 0x02, 0x04, 0x00,
+];
+
+#[test]
+fn checksum_is_over_the_message_without_one(rt: HostRuntime) -> Result<(), Fail> {
+    let fields = &SAFE_17[4..71];
+    let mut expected = Vec::from_slice(rt.alloc(), &BEFORE_FIELDS)?;
+    expected.extend_from_slice(fields)?;
+    expected.extend_from_slice(&AFTER_FIELDS)?;
+    let input = checksum_input(rt.alloc(), fields)?;
+    assert_same(&rt, input.as_slice(), expected.as_slice());
+    let mut bytes = Vec::from_slice(rt.alloc(), &[1, 2])?;
+    put_checksum_input(&mut bytes, fields)?;
+    assert_same(&rt, bytes.get(..2), Some([1, 2].as_slice()));
+    assert_same(&rt, bytes.get(2..), Some(expected.as_slice()));
     Ok(())
 }

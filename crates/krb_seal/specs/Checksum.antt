@@ -1,5 +1,5 @@
 -- The checksum of a KRB-SAFE, by the fields before it.
-use Rattle.std.specs.Prelude.{◌≡◌, ℕ, List}
+use Rattle.std.specs.Prelude.{◌≡◌, ℕ, List, ◌++◌}
 use Rattle.krb_der.specs.declared.safe.SafeMsg.{SafeMsg}
 use Rattle.krb_der.specs.Message.{safe_input}
 use Rattle.krb_der.specs.Safe.{before_checksum}
@@ -12,3 +12,7 @@ Sums key fields sum = (m : SafeMsg) → before_checksum m ≡ fields → sum ≡
 -- The bytes are those under the checksum of each message that has these fields before its checksum.
 abbrev pub IsCovered : List ℕ → List ℕ → Type 0
 IsCovered fields bytes = (m : SafeMsg) → before_checksum m ≡ fields → bytes ≡ safe_input m
+
+-- The bytes under the checksum of each message that has these fields before its checksum were appended.
+abbrev pub PutsCovered : List ℕ → List ℕ → List ℕ → Type 0
+PutsCovered fields old new = (m : SafeMsg) → before_checksum m ≡ fields → new ≡ old ++ safe_input m

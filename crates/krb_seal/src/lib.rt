@@ -39,7 +39,7 @@ mod session;
 mod unopened;
 
 pub use aes_sealer::{Aes128Sealer, Aes256Sealer, AesSealer, SealerParts, SessionSealer};
-pub use checksum::checksum_input;
+pub use checksum::{checksum_input, put_checksum_input};
 pub use coded::{Coded, Covered};
 pub use exists::exists_laws;
 pub use frame::{frame_of, unenciphered, unsigned};

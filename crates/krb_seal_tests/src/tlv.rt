@@ -32,6 +32,19 @@ const OCTETS: [u8; 12] = [
     0xa2, 0x0a, 0x04, 0x08, 0x01, 0x23, 0x45, 0x67, 0x89, 0xab, 0xcd, 0xef,
 ];
 
+/// How many bytes an OCTET STRING under the tag `[2]` has, and what comes before them, worked out by
+/// hand (X.690 section 8.1.3).
+const HEADERS: [(u16, &[u8]); 8] = [
+    (0, &[0xa2, 0x02, 0x04, 0x00]),
+    (125, &[0xa2, 0x7f, 0x04, 0x7d]),
+    (126, &[0xa2, 0x81, 0x80, 0x04, 0x7e]),
+    (127, &[0xa2, 0x81, 0x81, 0x04, 0x7f]),
+    (128, &[0xa2, 0x81, 0x83, 0x04, 0x81, 0x80]),
+    (252, &[0xa2, 0x81, 0xff, 0x04, 0x81, 0xfc]),
+    (253, &[0xa2, 0x82, 0x01, 0x00, 0x04, 0x81, 0xfd]),
+    (1000, &[0xa2, 0x82, 0x03, 0xec, 0x04, 0x82, 0x03, 0xe8]),
+];
+
 /// The field with a number.
 fn int32_field(alloc: Global, number: i32) -> Result<Vec<u8>, AllocError> {
     let mut out = Writer::with_capacity(alloc, int32_field_size(&number))?;
@@ -106,6 +119,17 @@ fn octets_are_written_and_read(rt: HostRuntime) -> Result<(), Fail> {
     assert_same(&rt, fields.rest().len(), 0);
     let content = only_element(OCTET_STRING, &OCTETS[2..]);
     assert_same(&rt, content, Some(CONTENT.as_slice()));
+    Ok(())
+}
+
+#[test]
+fn two_headers_are_written_at_once(rt: HostRuntime) -> Result<(), Fail> {
+    for (size, headers) in HEADERS {
+        let mut out = Writer::with_capacity(rt.alloc(), headers.len())?;
+        out.begin_two(FIELD_2, OCTET_STRING, usize::from(size))?;
+        let written = out.into_vec();
+        assert_same_at(&rt, written.as_slice(), headers, size);
+    }
     Ok(())
 }
 

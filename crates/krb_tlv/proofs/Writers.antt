@@ -33,6 +33,17 @@ pub begun : (tag n : ℕ) (content s0 s1 s2 : List ℕ) → n ≡ length content
 unfolding tagged
 begun tag n content s0 s1 s2 size first second = rw (second, first, size) (append_assoc s0 (header tag (length content)) content)
 
+-- two headers, and then the content
+pub begun_two : (outer inner n : ℕ) (content s0 s1 s2 : List ℕ) → n ≡ length content → s1 ≡ s0 ++ (header outer (element_size n) ++ header inner n) → s2 ≡ s1 ++ content
+    → s2 ≡ s0 ++ tagged outer (tagged inner content)
+unfolding tagged
+begun_two outer inner n content s0 s1 s2 size first second =
+    let a : List ℕ = header outer (element_size (length content)) in
+    let b : List ℕ = header inner (length content) in
+    let whole : s2 ≡ (s0 ++ (a ++ b)) ++ content = rw (second, first, size) refl in
+    whole ∙ append_assoc s0 (a ++ b) content ∙ ap (λ (x : List ℕ). s0 ++ x) (append_assoc a b content)
+    ∙ ap (λ (k : ℕ). s0 ++ (header outer k ++ (b ++ content))) (sym (size-tagged inner content))
+
 -- the sizes of elements and of fields in a row
 pub ruleset sizes = (size-tagged, length-append)
 

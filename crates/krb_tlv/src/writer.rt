@@ -66,6 +66,27 @@ impl Writer {
         self.put(Header::new(tag, content).as_slice())
     }
 
+    /// Adds what comes before a content of so many bytes that stands in an element within an element
+    /// (X.690 section 8.1): the tags and the lengths of both. The only error is out of memory; nobody
+    /// knows then what was written.
+    #[tactic(auto, unfolding(crate::specs::Element::header, crate::specs::Length::length_octets))]
+    pub fn begin_two(&mut self, outer: u8, inner: u8, content: usize) -> Result<(), AllocError>
+        requires limit { content + 6 < 2 ^ 24 }
+        ensures headers { OnOk result (self.new
+            ≡ self.old ++ (header outer (element_size content) ++ header inner content)) }
+    {
+        if content < 126 {
+            let size = content as u8;
+            return self.put(&[outer, size + 2, inner, size]);
+        }
+        if content >= 128 && content < 253 {
+            let size = content as u8;
+            return self.put(&[outer, 0x81, size + 3, inner, 0x81, size]);
+        }
+        self.begin(outer, size_around(content))?;
+        self.begin(inner, content)
+    }
+
     /// Adds an element with this content.
     #[tactic(auto, unfolding(crate::specs::Element::tagged))]
     pub fn element(&mut self, tag: u8, content: &[u8]) -> Result<(), AllocError>
@@ -81,8 +102,8 @@ impl Writer {
         requires { IsShort bytes.now }
         ensures { OnOk result (self.new ≡ self.old ++ tagged tag (octets bytes.now)) }
     {
-        self.begin(tag, size_around(bytes.len()))?;
-        self.element(tag::OCTET_STRING, bytes)
+        self.begin_two(tag, tag::OCTET_STRING, bytes.len())?;
+        self.put(bytes)
     }
 
     /// The spelling.

@@ -1,0 +1,160 @@
+-- What is made of one KRB-SAFE, from what is known of it, and what a buffer holds of eight.
+use Rattle.std.proofs.Common.{◌≡◌, ℕ, ◌+◌, ◌-◌, ◌<◌, ◌≤◌, List, ◌++◌, length, take, drop, refl, sym, ap, subst, ◌∙◌, arith, append_assoc, length-append}
+use Rattle.std.proofs.lemmas.List.{drop-append-le, length-drop, take-append-le, take_all}
+use Rattle.std.proofs.Math.Seq.{drop-append_seam}
+use Rattle.krb_der.specs.declared.body.Body.{Body}
+use Rattle.krb_der.specs.declared.safe.SafeDraft.{SafeDraft}
+use Rattle.krb_der.specs.declared.safe.SafeMsg.{SafeMsg}
+use Rattle.krb_der.specs.declared.message.Message.TheVariants as messages
+use Rattle.krb_der.specs.Message.{IsSafeDraft, Spells, safe_input}
+use Rattle.krb_der.specs.Safe.{checksum_field}
+use Rattle.krb_etype.specs.declared.etype.Etype.{Etype}
+use Rattle.krb_etype.specs.Etype.{checksum_number, confounder_size, number_of}
+use Rattle.krb_etype.specs.Keys.{checksum_key}
+use Rattle.krb_keys.specs.Hmac.{hmac96}
+use Rattle.krb_keys.proofs.HmacLemmas.{length-hmac96}
+use Rattle.krb_seal.specs.declared.session.Mode.{Mode}
+use Rattle.krb_seal.specs.declared.session.Mode.TheVariants.{Safe, Priv}
+use Rattle.krb_seal.specs.Checksum.{PutsCovered}
+use Rattle.krb_seal.specs.Seals.{SealsBody, safe_checksum, sealed_safe, unsigned}
+use Rattle.krb_bulk.specs.declared.bulk.Bulk.{Bulk}
+use Rattle.krb_bulk.specs.declared.safe.Unsummed.{Unsummed}
+use Rattle.krb_bulk.specs.declared.four.Four.{Four}
+use Rattle.krb_bulk.specs.Four.{AreEach, AreFrom}
+use Rattle.krb_bulk.specs.BulkInside.{AreSums, Extends, HasInput, HasInputAt, HasSum, IsSumAt, IsUnsummed, IsUnsummedAt, LiesIn, SealsAt, body_at, input_of}
+use Rattle.krb_bulk.proofs.BulkLemmas.{message_at}
+
+-- the message that carries what was made
+whole_of : (etype : Etype) (made b : Body) (m : SafeMsg) → made ≡ b → m ≡ unsigned etype made → m ≡ unsigned etype b
+whole_of etype made b m same is = is ∙ ap (λ (x : Body). unsigned etype x) same
+
+-- a draft of what the message carries
+pub unsummed_of : (etype : Etype) (conf : List ℕ) (made b : Body) (m : SafeMsg) (u : Unsummed) → length conf ≡ confounder_size → made ≡ b → m ≡ unsigned etype made
+    → IsSafeDraft m m.cksum_type 12 u.draft → IsUnsummed etype conf b u
+unsummed_of etype conf made b m u size same is d = record {
+  confounder = size;
+  draft = subst (λ (x : SafeMsg). IsSafeDraft x x.cksum_type 12 u.draft) (whole_of etype made b m same is) d;
+}
+
+-- the bytes under its checksum, after they were appended
+put_input : (m : SafeMsg) (old new : List ℕ) (u : Unsummed) → new ≡ old ++ safe_input m → u.start ≡ length old → u.end ≡ length new → HasInput m new u
+put_input m old new u is first last =
+    let i : List ℕ = safe_input m in
+    let size : length new ≡ length old + length i = ap length is ∙ length-append old i in
+    let rest : drop u.start new ≡ i =
+    ap (λ (n : ℕ). drop n new) first ∙ ap (λ (s : List ℕ). drop (length old) s) is ∙ drop-append_seam old i in
+    record {
+      lies = record { order = omega (arith, size, first, last); within = omega (arith, last) };
+      input = ap (λ (s : List ℕ). take (u.end - u.start) s) rest ∙ take_all (u.end - u.start) i (omega (arith, size, first, last));
+    }
+
+pub input_put : (etype : Etype) (made b : Body) (m : SafeMsg) (fields old new : List ℕ) (u : Unsummed) → made ≡ b → m ≡ unsigned etype made → IsSafeDraft m m.cksum_type 12 u.draft
+    → fields ≡ drop u.draft.start u.draft.bytes.items → PutsCovered fields old new → u.start ≡ length old → u.end ≡ length new → HasInput (unsigned etype b) new u
+input_put etype made b m fields old new u same is d from puts first last =
+    subst (λ (x : SafeMsg). HasInput x new u) (whole_of etype made b m same is)
+    (put_input m old new u (puts m (sym (from ∙ d.fields))) first last)
+
+pub put_extends : (m : SafeMsg) (fields old new : List ℕ) (draft : SafeDraft) → IsSafeDraft m m.cksum_type 12 draft → fields ≡ drop draft.start draft.bytes.items
+    → PutsCovered fields old new → Extends old new
+put_extends m fields old new draft d from puts = (safe_input m, puts m (sym (from ∙ d.fields)))
+
+-- ---- a buffer that grows
+
+pub extends_on : (xs ys zs : List ℕ) → Extends xs ys → Extends ys zs → Extends xs zs
+extends_on xs ys zs a b = (a.0 ++ b.0, b.1 ∙ ap (λ (s : List ℕ). s ++ b.0) a.1 ∙ append_assoc xs a.0 b.0)
+
+kept : (m : SafeMsg) (xs more : List ℕ) (u : Unsummed) → HasInput m xs u → HasInput m (xs ++ more) u
+kept m xs more u h = record {
+  lies = record { order = h.lies.order; within = omega (arith, h.lies.within, length-append xs more) };
+  input = ap (λ (s : List ℕ). take (u.end - u.start) s) (drop-append-le u.start xs more (omega (arith, h.lies.order, h.lies.within)))
+      ∙ take-append-le (u.end - u.start) (drop u.start xs) more (omega (arith, h.lies.order, h.lies.within, length-drop u.start xs)) ∙ h.input;
+}
+
+kept_at : (b : Bulk) (k : ℕ) (u : Unsummed) (xs ys : List ℕ) → Extends xs ys → HasInputAt b xs k u → HasInputAt b ys k u
+kept_at b k u xs ys e h =
+    λ m at. subst (λ (s : List ℕ). HasInput (unsigned b.parts.etype (body_at b k m)) s u) (sym e.1)
+    (kept (unsigned b.parts.etype (body_at b k m)) xs e.0 u (h m at))
+
+pub four_kept : (b : Bulk) (from : ℕ) (four : Four Unsummed) (xs ys : List ℕ) → Extends xs ys → AreFrom (HasInputAt b xs) from four → AreFrom (HasInputAt b ys) from four
+four_kept b from four xs ys e h = record {
+  a = kept_at b from four.a xs ys e h.a;
+  b = kept_at b (from + 1) four.b xs ys e h.b;
+  c = kept_at b (from + 2) four.c xs ys e h.c;
+  d = kept_at b (from + 3) four.d xs ys e h.d;
+}
+
+-- four that were put one after another
+pub four_put : (b : Bulk) (from : ℕ) (four : Four Unsummed) (s t u v : List ℕ) → Extends s t → Extends t u → Extends u v → HasInputAt b s from four.a
+    → HasInputAt b t (from + 1) four.b → HasInputAt b u (from + 2) four.c → HasInputAt b v (from + 3) four.d → AreFrom (HasInputAt b v) from four
+four_put b from four s t u v st tu uv ha hb hc hd =
+    let tv = extends_on t u v tu uv in
+    record {
+      a = kept_at b from four.a s v (extends_on s t v st tv) ha;
+      b = kept_at b (from + 1) four.b t v tv hb;
+      c = kept_at b (from + 2) four.c u v uv hc;
+      d = hd;
+    }
+
+lies_at : (b : Bulk) (inputs : List ℕ) (k : ℕ) (u : Unsummed) → k < length b.messages.now → HasInputAt b inputs k u → LiesIn inputs u
+lies_at b inputs k u lt h = let m = message_at b.messages.now k lt in (h m.0 m.1).lies
+
+-- four lie in a buffer
+lie_from : (b : Bulk) (inputs : List ℕ) (from : ℕ) (four : Four Unsummed) → from + 4 ≤ length b.messages.now → AreFrom (HasInputAt b inputs) from four
+    → AreEach (LiesIn inputs) four
+lie_from b inputs from four le h = record {
+  a = lies_at b inputs from four.a (omega (arith, le)) h.a;
+  b = lies_at b inputs (from + 1) four.b (omega (arith, le)) h.b;
+  c = lies_at b inputs (from + 2) four.c (omega (arith, le)) h.c;
+  d = lies_at b inputs (from + 3) four.d (omega (arith, le)) h.d;
+}
+
+pub lie_in : (b : Bulk) (inputs held : List ℕ) (from : ℕ) (four : Four Unsummed) → held ≡ inputs → from + 4 ≤ length b.messages.now → AreFrom (HasInputAt b inputs) from four
+    → AreEach (LiesIn held) four
+lie_in b inputs held from four is le h = subst (λ (s : List ℕ). AreEach (LiesIn s) four) (sym is) (lie_from b inputs from four le h)
+
+-- ---- checksums
+
+sum_at : (b : Bulk) (inputs : List ℕ) (k : ℕ) (u : Unsummed) (sum : List ℕ) → HasInputAt b inputs k u → sum ≡ hmac96 (checksum_key b.parts.keys.now.key) (input_of inputs u)
+    → IsSumAt b k sum
+sum_at b inputs k u sum h is =
+    λ m at. is ∙ ap (λ (x : List ℕ). hmac96 (checksum_key b.parts.keys.now.key) x) (h m at).input
+
+sums_from : (b : Bulk) (inputs : List ℕ) (from : ℕ) (four : Four Unsummed) (sums : Four (List ℕ)) → AreFrom (HasInputAt b inputs) from four
+    → AreSums b.parts.keys.now.key inputs four sums → AreFrom (IsSumAt b) from sums
+sums_from b inputs from four sums h are = record {
+  a = sum_at b inputs from four.a sums.a h.a are.a;
+  b = sum_at b inputs (from + 1) four.b sums.b h.b are.b;
+  c = sum_at b inputs (from + 2) four.c sums.c h.c are.c;
+  d = sum_at b inputs (from + 3) four.d sums.d h.d are.d;
+}
+
+pub sums_in : (b : Bulk) (inputs held : List ℕ) (from : ℕ) (four : Four Unsummed) (sums : Four (List ℕ)) → held ≡ inputs → AreFrom (HasInputAt b inputs) from four
+    → AreSums b.parts.keys.now.key held four sums → AreFrom (IsSumAt b) from sums
+sums_in b inputs held from four sums is h are =
+    sums_from b inputs from four sums h (subst (λ (s : List ℕ). AreSums b.parts.keys.now.key s four sums) is are)
+
+-- the frame of a KRB-SAFE
+safe_frame : (etype : Etype) (key conf : List ℕ) (b : Body) (u : Unsummed) (sum frame : List ℕ) → IsUnsummed etype conf b u
+    → sum ≡ safe_checksum key (unsigned etype b) → HasSum etype u sum frame → SealsBody Safe (number_of etype) key conf b frame
+safe_frame etype key conf b u sum frame h same made =
+    let own : List ℕ = safe_checksum key (unsigned etype b) in
+    let whole : frame ≡ u.draft.bytes.items ++ checksum_field (checksum_number etype) own =
+    made ∙ ap (λ (x : List ℕ). u.draft.bytes.items ++ checksum_field (checksum_number etype) x) same in
+    let spelt : Spells (messages.Safe (sealed_safe etype key b)) frame =
+    subst (λ (s : List ℕ). Spells (messages.Safe (sealed_safe etype key b)) s) (sym whole)
+    (h.draft.spelt own (length-hmac96 (checksum_key key) (safe_input (unsigned etype b)))) in
+    record {
+      etype = etype;
+      known = refl;
+      body = spelt.in_range.body;
+      confounder = h.confounder;
+      plain = λ e. absurd (let no : Safe ≡ Priv = e in cc);
+      spelt = spelt;
+    }
+
+-- the frame of one in the mode of KRB-SAFE
+pub safe_at : (b : Bulk) (k : ℕ) (u : Unsummed) (sum frame : List ℕ) → b.parts.session.now.mode ≡ Safe → IsUnsummedAt b k u → IsSumAt b k sum → HasSum b.parts.etype u sum frame
+    → SealsAt b k frame
+safe_at b k u sum frame mode h is made =
+    λ m at. subst (λ (x : Mode). SealsBody x (number_of b.parts.etype) b.parts.keys.now.key m.confounder (body_at b k m) frame) (sym mode)
+    (safe_frame b.parts.etype b.parts.keys.now.key m.confounder (body_at b k m) u sum frame (h m at) (is m at) made)
