@@ -1,5 +1,5 @@
 -- What operators on vectors of eight lanes do to each lane.
-use Rattle.std.proofs.Common.{◌≡◌, ℕ, zero, suc, ◌+◌, ◌-◌, ◌*◌, ◌/◌, ◌%◌, ◌^◌, ◌<◌, List, [], length, map, slice_index, slice_index_or, slice_set, bit_and, bit_or, bit_xor, replicate, arith, refl, ◌∙◌, ◌≢◌}
+use Rattle.std.proofs.Common.{◌≡◌, ℕ, zero, suc, ◌+◌, ◌-◌, ◌*◌, ◌/◌, ◌%◌, ◌^◌, ◌<◌, List, [], ◌∷◌, length, map, slice_index, slice_index_or, slice_set, bit_and, bit_or, bit_xor, replicate, arith, refl, ◌∙◌, ◌≢◌}
 use Rattle.std.specs.Int.{w32, bit_not, rotate_left}
 use Rattle.std.specs.Simd.Lanes.{zip2}
 use Rattle.std.proofs.lemmas.List.{get_or-map, length-map, map-set, get_or-set_same, get_or-set_other}
@@ -147,3 +147,14 @@ each_message P p0 p1 p2 p3 p4 p5 p6 p7 (suc (suc (suc (suc (suc zero))))) h = p5
 each_message P p0 p1 p2 p3 p4 p5 p6 p7 (suc (suc (suc (suc (suc (suc zero)))))) h = p6
 each_message P p0 p1 p2 p3 p4 p5 p6 p7 (suc (suc (suc (suc (suc (suc (suc zero))))))) h = p7
 each_message P p0 p1 p2 p3 p4 p5 p6 p7 (suc (suc (suc (suc (suc (suc (suc (suc n)))))))) h = absurd (omega arith)
+
+-- a hash value has five words
+pub five_are : (x : List ℕ) → length x ≡ 5
+    → slice_index x 0 ∷ slice_index x 1 ∷ slice_index x 2 ∷ slice_index x 3 ∷ slice_index x 4 ∷ [] ≡ x
+five_are (a ∷ b ∷ c ∷ d ∷ e ∷ []) h = refl
+five_are [] h = absurd (omega (arith, h))
+five_are (a ∷ []) h = absurd (omega (arith, h))
+five_are (a ∷ b ∷ []) h = absurd (omega (arith, h))
+five_are (a ∷ b ∷ c ∷ []) h = absurd (omega (arith, h))
+five_are (a ∷ b ∷ c ∷ d ∷ []) h = absurd (omega (arith, h))
+five_are (a ∷ b ∷ c ∷ d ∷ e ∷ f ∷ g) h = absurd (omega (arith, h))

@@ -1,5 +1,5 @@
 //! SHA-1 (FIPS 180-4) of eight messages side by side, which begin with the same block, as the
-//! messages do that HMAC hashes under one key (RFC 2104).
+//! messages do that HMAC hashes under one key (RFC 2104), or each with a block of its own.
 #![tactic(auto)]
 
 mod blocks;

@@ -1,6 +1,6 @@
 //! Digests of messages that begin with the same block.
 
-ghost use Rattle.std.specs.Prelude.{◌≡◌, ℕ, ◌+◌, ◌<◌, ◌≤◌, List, ◌++◌, length};
+ghost use Rattle.std.specs.Prelude.{◌≡◌, ℕ, ◌+◌, ◌<◌, ◌≤◌, List, ◌++◌, length, slice_index};
 ghost use Rattle.sha1.specs.Sha1.{digest_bytes, sha1};
 ghost use Rattle.krb_digests.specs.Lanes.{lane, message, texts};
 ghost use Rattle.krb_digests.specs.Rest.{after_block, rest_block, rest_blocks, wiped_hash};
@@ -57,6 +57,37 @@ fn each(hash: &[u32; 5]) -> [u32x8; 5]
         u32x8::splat(hash[2]),
         u32x8::splat(hash[3]),
         u32x8::splat(hash[4]),
+    ]
+}
+
+// Word `i` of each hash value.
+fn word_of_each(hashes: &[[u32; 5]; 8], i: usize) -> u32x8
+    requires { i < 5 }
+    ensures { (j : ℕ) → j < 8 → slice_index result j ≡ slice_index (message j hashes.now) i }
+{
+    u32x8::from_array([
+        hashes[0][i],
+        hashes[1][i],
+        hashes[2][i],
+        hashes[3][i],
+        hashes[4][i],
+        hashes[5][i],
+        hashes[6][i],
+        hashes[7][i],
+    ])
+}
+
+// A hash value for each message.
+fn side_by_side(hashes: &[[u32; 5]; 8]) -> [u32x8; 5]
+    requires { (j : ℕ) → j < 8 → length (message j hashes.now) ≡ 5 }
+    ensures { (j : ℕ) → j < 8 → lane j result ≡ message j hashes.now }
+{
+    [
+        word_of_each(hashes, 0),
+        word_of_each(hashes, 1),
+        word_of_each(hashes, 2),
+        word_of_each(hashes, 3),
+        word_of_each(hashes, 4),
     ]
 }
 
@@ -186,6 +217,48 @@ fn note_ended(digests: &mut [[u8; 20]; 8], state: &[u32x8; 5], rests: &[Rest<'_>
     }
 }
 
+// The digests of eight messages, from the hash values after their first blocks on.
+fn digests_from(first: &[u32x8; 5], messages: &[&[u8]; 8]) -> [[u8; 20]; 8]
+    ensures { (block : List ℕ) (j : ℕ) → length block ≡ 64 → lane j first.now ≡ after_block block
+        → j < 8 → message j result ≡ sha1 (block ++ message j (texts messages.now)) }
+{
+    let rests = rests(messages);
+    let mut state = *first;
+    let mut digests = [[0u8; 20]; 8];
+    for n in 0..most_blocks(&rests) {
+        compress(&mut state, &blocks_at(&rests, n));
+        note_ended(&mut digests, &state, &rests, n + 1);
+    }
+    digests
+}
+
+// The same where 20 bytes follow the first block of each.
+fn digests_of_20_from(first: &[u32x8; 5], messages: &[[u8; 20]; 8]) -> [[u8; 20]; 8]
+    ensures { (block : List ℕ) (j : ℕ) → length block ≡ 64 → lane j first.now ≡ after_block block
+        → j < 8 → message j result ≡ sha1 (block ++ message j messages.now) }
+{
+    let mut state = *first;
+    compress(&mut state, &blocks_of_20(messages));
+    digests_of(&state)
+}
+
+// The hash values after the first blocks.
+fn hashes_of(prefixes: &[&Prefix; 8]) -> [[u32; 5]; 8]
+    ensures words { (j : ℕ) → j < 8 → length (message j result) ≡ 5 }
+    ensures each { (j : ℕ) → j < 8 → message j result ≡ message j (texts prefixes.now) }
+{
+    [
+        prefixes[0].hash(),
+        prefixes[1].hash(),
+        prefixes[2].hash(),
+        prefixes[3].hash(),
+        prefixes[4].hash(),
+        prefixes[5].hash(),
+        prefixes[6].hash(),
+        prefixes[7].hash(),
+    ]
+}
+
 impl Prefix {
     /// The hash values after two blocks, as HMAC has two.
     pub fn pair(first: &[u8; 64], second: &[u8; 64]) -> (Prefix, Prefix)
@@ -200,19 +273,20 @@ impl Prefix {
         (Prefix { hash: first }, Prefix { hash: second })
     }
 
+    // The hash value after the first block.
+    fn hash(&self) -> [u32; 5]
+        ensures words { length result ≡ 5 }
+        ensures hash { result ≡ self.now }
+    {
+        self.hash
+    }
+
     /// The digests of eight messages, of which each is the block followed by its bytes.
     pub fn digests(&self, messages: &[&[u8]; 8]) -> [[u8; 20]; 8]
         ensures { (block : List ℕ) (j : ℕ) → length block ≡ 64 → self.now ≡ after_block block → j < 8
             → message j result ≡ sha1 (block ++ message j (texts messages.now)) }
     {
-        let rests = rests(messages);
-        let mut state = each(&self.hash);
-        let mut digests = [[0u8; 20]; 8];
-        for n in 0..most_blocks(&rests) {
-            compress(&mut state, &blocks_at(&rests, n));
-            note_ended(&mut digests, &state, &rests, n + 1);
-        }
-        digests
+        digests_from(&each(&self.hash), messages)
     }
 
     /// The same of messages of which each is the block followed by 20 bytes, as the digests are that HMAC hashes last.
@@ -220,9 +294,26 @@ impl Prefix {
         ensures { (block : List ℕ) (j : ℕ) → length block ≡ 64 → self.now ≡ after_block block → j < 8
             → message j result ≡ sha1 (block ++ message j messages.now) }
     {
-        let mut state = each(&self.hash);
-        compress(&mut state, &blocks_of_20(messages));
-        digests_of(&state)
+        digests_of_20_from(&each(&self.hash), messages)
+    }
+
+    /// The digests of eight messages that begin with blocks of their own: each is its block followed by its
+    /// bytes.
+    pub fn digests_after(prefixes: &[&Prefix; 8], messages: &[&[u8]; 8]) -> [[u8; 20]; 8]
+        ensures { (block : List ℕ) (j : ℕ) → length block ≡ 64
+            → message j (texts prefixes.now) ≡ after_block block → j < 8
+            → message j result ≡ sha1 (block ++ message j (texts messages.now)) }
+    {
+        digests_from(&side_by_side(&hashes_of(prefixes)), messages)
+    }
+
+    /// The same of messages of which each is its block followed by 20 bytes.
+    pub fn digests_of_20_after(prefixes: &[&Prefix; 8], messages: &[[u8; 20]; 8]) -> [[u8; 20]; 8]
+        ensures { (block : List ℕ) (j : ℕ) → length block ≡ 64
+            → message j (texts prefixes.now) ≡ after_block block → j < 8
+            → message j result ≡ sha1 (block ++ message j messages.now) }
+    {
+        digests_of_20_from(&side_by_side(&hashes_of(prefixes)), messages)
     }
 
     /// Overwrites the hash value with zeros.

@@ -1,9 +1,11 @@
-//! HMAC-SHA1-96 (RFC 3962, section 6) of eight texts at a time, under one key.
+//! HMAC-SHA1-96 (RFC 3962, section 6) of eight texts at a time, under one key or each under a key of its own.
 
-ghost use Rattle.std.specs.Prelude.{◌≡◌, ℕ, ◌<◌, List, take};
+ghost use Rattle.std.specs.Prelude.{◌≡◌, ℕ, ◌<◌, List, take, slice_index_or};
+ghost use Rattle.std.specs.Borrow.{Bor};
 ghost use Rattle.krb_digests.specs.Lanes.{message, texts};
 ghost use Rattle.krb_keys.specs.Hmac.{hmac, hmac96};
 ghost use Rattle.krb_keys.specs.BatchMac.{HoldsBatchKey, IsBatchForgotten};
+ghost use Rattle.krb_keys.specs.declared.batch_mac.BatchMac.{BatchMac};
 
 use crate::mac_key::{INNER_PAD, OUTER_PAD, padded_key};
 use krb_digests::Prefix;
@@ -25,6 +27,44 @@ fn cut(code: &[u8; 20]) -> [u8; 12]
     let mut first = [0u8; 12];
     first.copy_from_slice(&code[..12]);
     first
+}
+
+// The same of each code.
+fn cut_each(codes: &[[u8; 20]; 8]) -> [[u8; 12]; 8]
+    ensures { (j : ℕ) → j < 8 → message j result ≡ take 12 (message j codes.now) }
+{
+    [
+        cut(&codes[0]),
+        cut(&codes[1]),
+        cut(&codes[2]),
+        cut(&codes[3]),
+        cut(&codes[4]),
+        cut(&codes[5]),
+        cut(&codes[6]),
+        cut(&codes[7]),
+    ]
+}
+
+// The hash values after the first padded key of each.
+fn inners<'a>(macs: &[&'a BatchMac; 8]) -> [&'a Prefix; 8]
+    ensures { (j : ℕ) (none : Bor BatchMac) → j < 8
+        → message j (texts result) ≡ (slice_index_or macs.now j none).now.inner }
+{
+    let [a, b, c, d, e, f, g, h] = *macs;
+    [
+        &a.inner, &b.inner, &c.inner, &d.inner, &e.inner, &f.inner, &g.inner, &h.inner,
+    ]
+}
+
+// The hash values after the second padded key of each.
+fn outers<'a>(macs: &[&'a BatchMac; 8]) -> [&'a Prefix; 8]
+    ensures { (j : ℕ) (none : Bor BatchMac) → j < 8
+        → message j (texts result) ≡ (slice_index_or macs.now j none).now.outer }
+{
+    let [a, b, c, d, e, f, g, h] = *macs;
+    [
+        &a.outer, &b.outer, &c.outer, &d.outer, &e.outer, &f.outer, &g.outer, &h.outer,
+    ]
 }
 
 impl BatchMac {
@@ -50,17 +90,17 @@ impl BatchMac {
         ensures { (key : List ℕ) (j : ℕ) → HoldsBatchKey self.now key → j < 8
             → message j result ≡ hmac96 key (message j (texts messages.now)) }
     {
-        let codes = self.codes(messages);
-        [
-            cut(&codes[0]),
-            cut(&codes[1]),
-            cut(&codes[2]),
-            cut(&codes[3]),
-            cut(&codes[4]),
-            cut(&codes[5]),
-            cut(&codes[6]),
-            cut(&codes[7]),
-        ]
+        cut_each(&self.codes(messages))
+    }
+
+    /// The same of eight texts of which each is under a key of its own.
+    pub fn hmac96_under(macs: &[&BatchMac; 8], messages: &[&[u8]; 8]) -> [[u8; 12]; 8]
+        ensures { (j : ℕ) (key : List ℕ) (none : Bor BatchMac) → j < 8
+            → HoldsBatchKey (slice_index_or macs.now j none).now key
+            → message j result ≡ hmac96 key (message j (texts messages.now)) }
+    {
+        let first = Prefix::digests_after(&inners(macs), messages);
+        cut_each(&Prefix::digests_of_20_after(&outers(macs), &first))
     }
 
     /// Forgets the key.

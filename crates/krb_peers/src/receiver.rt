@@ -143,7 +143,28 @@ impl Receiver {
             self.new.demand.closed ≡ is_close (record_of carried)) }
         ensures err { OnErr result (self.new ≡ self.old) }
     {
-        let delivery = self.judge(alloc, frame, now)?;
+        self.take_coded(alloc, frame, None, now)
+    }
+
+    /// Takes a frame as [`take`](Receiver::take) does, by a code that was computed before
+    /// ([`Opener::unseal_coded`]).
+    pub fn take_coded(
+        &mut self,
+        alloc: Global,
+        frame: &[u8],
+        coded: Option<Coded<'_>>,
+        now: Moment,
+    ) -> Result<Delivery, Refusal>
+        requires coded { ForSome coded (IsCodedFrame self.old.opener frame.now) }
+        ensures verdict { IsJudgement self.old now frame.now result }
+        ensures memory { result ≡ Err Refusal.Memory → TakesMemory self.old now frame.now }
+        ensures after { self.new ≡ receiver_after self.old result }
+        ensures number { OnOk result (self.new.demand.expected ≡ self.old.demand.expected + 1) }
+        ensures closed { IfOk result (λ carried.
+            self.new.demand.closed ≡ is_close (record_of carried)) }
+        ensures err { OnErr result (self.new ≡ self.old) }
+    {
+        let delivery = self.judge(alloc, frame, coded, now)?;
         self.advance(delivery.is_close());
         Ok(delivery)
     }
@@ -264,20 +285,27 @@ impl Receiver {
         ensures in_range { IfOk result (λ verdict.
             OnOk verdict (self.now.demand.expected ≤ last_number)) }
     {
-        match self.judge(alloc, frame, now) {
+        match self.judge(alloc, frame, None, now) {
             Ok(delivery) => Ok(Ok(delivery)),
             Err(Refusal::Memory) => Err(AllocError),
             Err(refusal) => Ok(Err(refusal)),
         }
     }
 
-    /// What [`take`](Receiver::take) would return now. Nothing changes.
-    fn judge(&self, alloc: Global, frame: &[u8], now: Moment) -> Result<Delivery, Refusal>
+    /// What [`take`](Receiver::take) would return now. Nothing changes. The frame's code may be given.
+    fn judge(
+        &self,
+        alloc: Global,
+        frame: &[u8],
+        coded: Option<Coded<'_>>,
+        now: Moment,
+    ) -> Result<Delivery, Refusal>
+        requires coded { ForSome coded (IsCodedFrame self.now.opener frame.now) }
         ensures verdict { IsJudgement self.now now frame.now result }
         ensures memory { result ≡ Err Refusal.Memory → TakesMemory self.now now frame.now }
         ensures in_range { OnOk result (self.now.demand.expected ≤ last_number) }
     {
-        let user_data = self.unsealed(alloc, frame, None, now)?;
+        let user_data = self.unsealed(alloc, frame, coded, now)?;
         match into_record(alloc, user_data) {
             Ok(record) => Ok(Delivery::from(record)),
             Err(RecordError::BadRecord) => Err(Refusal::BadRecord),

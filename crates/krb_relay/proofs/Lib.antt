@@ -8,3 +8,4 @@ pub mod SealedLemmas
 pub mod RelayedLemmas
 pub mod OpeningLemmas
 pub mod WaitingLemmas
+pub mod TogetherLemmas

@@ -1,5 +1,5 @@
 -- How the frames that wait are opened.
-use Rattle.std.proofs.Common.{◌≡◌, ◌≢◌, ◌⊎◌, ℕ, zero, suc, ◌+◌, ◌-◌, ◌<◌, ◌≤◌, List, [], ◌∷◌, ◌++◌, length, take, set, get_or, Some, Ok, Err, inl, inr, refl, sym, ap, ap₂, subst, ◌∙◌, arith}
+use Rattle.std.proofs.Common.{◌≡◌, ◌≢◌, ◌⊎◌, ℕ, zero, suc, ◌+◌, ◌-◌, ◌<◌, ◌≤◌, List, [], ◌∷◌, ◌++◌, length, take, set, get_or, Option, Some, None, Ok, Err, inl, inr, refl, sym, ap, ap₂, subst, ◌∙◌, arith}
 use Rattle.std.proofs.lemmas.List.{length-append, length-set, length-take-le, take_more, get_or_append_left, get_or-append_right, get_or-set_same, get_or-set_other}
 use Rattle.std.proofs.lemmas.Bool.Decides.{eqb_tells}
 use Rattle.krb_base.specs.Bytes.{AreBytes}
@@ -18,7 +18,7 @@ use Rattle.krb_peers.proofs.OrderLemmas.{demand_after-nil, demand_after-append}
 use Rattle.krb_peers.proofs.ReceiveLemmas.{answer_is}
 use Rattle.krb_peers.proofs.VerdictLemmas.{verdicts-push}
 use Rattle.krb_relay.specs.declared.waiting.Waiting.{Waiting}
-use Rattle.krb_relay.specs.Opening.{AreReady, HasJudged, HasMoment, IsReady, JudgesNext, Opens, OpensBelow, OpensEach}
+use Rattle.krb_relay.specs.Opening.{AreReady, Enters, HasJudged, HasMoment, IsReady, JudgesFirst, JudgesFrame, JudgesNext, Opens, OpensBelow, OpensEach, listed}
 
 -- ---- frames of one lane
 
@@ -247,3 +247,41 @@ one_opened r place k frames so_far vs all now next frame bytes v lt count same i
     let Q : List Verdict → Type 0 = λ us. HasJudged r place frames us next in
     let stands : frame ≡ get_or frames (length vs) frame = is ∙ (at ∙ (ap (λ y. get_or so_far k y) (sym is) ∙ ap₂ (λ l n. get_or l n frame) same (sym count))) in
     subst Q (sym pushed) (judged_more r place frames vs now next frame v (omega (arith, lt, count)) stands h (subst P (sym count) j))
+
+-- ---- the first frame of a lane
+
+first_judged : (r : Receiving) (place : ℕ) (frames : List (List ℕ)) (v : Option Verdict) (now : Receiving) → JudgesFrame r place frames v now → HasJudged r place frames (listed v) now
+first_judged r place [] v now h =
+    let P : Option Verdict → Receiving → Type 0 = λ u x. HasJudged r place [] (listed u) x in
+    subst (λ u. P u now) (sym h.0) (subst (λ x. P None x) (sym h.1) (judged_none r place []))
+first_judged r place (frame ∷ rest) None now h =
+    let P : Receiving → Type 0 = λ x. HasJudged r place (frame ∷ rest) [] x in
+    subst P (sym h) (judged_none r place (frame ∷ rest))
+first_judged r place (frame ∷ rest) (Some v) now h =
+    let P : ℕ → Type 0 = λ n. JudgesNext r n frame (Some v) now in
+    let at : place ≡ place + 0 = omega arith in
+    judged_more r place (frame ∷ rest) [] r now frame v (omega arith) refl (judged_none r place (frame ∷ rest)) (subst P at h)
+
+-- its verdict is entered
+pub opens_entered : (r : Receiving) (w : Waiting) (v : Option Verdict) (now : Receiving) (x : Waiting) → JudgesFirst r w v now → Enters w v x → Opens r w now x
+opens_entered r w v now x judged e = record {
+  came_is = e.came_is;
+  frames_are = e.frames_are;
+  last_is = e.last_is;
+  judged = λ place at.
+      let P : List Verdict → Type 0 = λ us. HasJudged r place w.frames.items us now in
+      subst P (sym e.verdicts_are) (first_judged r place w.frames.items v now (judged place at));
+}
+
+-- a list that isn't empty begins with its first element
+pub begins_with : {X : Type 0} (xs : List X) (x : X) → 0 < length xs → x ≡ get_or xs 0 x → (rest : List X) × (xs ≡ x ∷ rest)
+begins_with [] x lt is = absurd (omega (arith, lt))
+begins_with (y ∷ ys) x lt is = (ys, ap (λ z. z ∷ ys) (sym is))
+
+-- the verdict on it is that on the first frame
+pub judges_frame : (r : Receiving) (place other : ℕ) (frames rest : List (List ℕ)) (frame bytes : List ℕ) (v : Option Verdict) (now : Receiving) → frames ≡ frame ∷ rest → bytes ≡ frame → place ≡ other
+    → JudgesNext r place bytes v now → JudgesFrame r other frames v now
+judges_frame r place other frames rest frame bytes v now is same at h =
+    let P : List (List ℕ) → Type 0 = λ fs. JudgesFrame r other fs v now in
+    let Q : List ℕ → ℕ → Type 0 = λ f n. JudgesNext r n f v now in
+    subst P (sym is) (subst (λ n. Q frame n) at (subst (λ f. Q f place) same h))

@@ -27,6 +27,9 @@ module _ (lane : ℕ) (starts : List Receiving) (ends : List Side) (receivings :
   pub lanes_are : log.lanes ≡ length starts
   lanes_are = h.stands.lanes ∙ count
 
+  pub few_receivers : length receivings ≤ lane_limit
+  few_receivers = let c = count in let f = h.stands.few in let r = h.each_receiver in omega (arith, c, f, r)
+
   -- the log, in rounds
   pub all_logged : log.entries ≡ rounds_heard (all_heard starts ends)
   all_logged = h.stands.logged ∙ ap rounds_heard (posts_heard starts ends receivings h.each_end h.each_receiver)

@@ -1,6 +1,7 @@
 -- What came through the lanes in some rounds: taken, opened and logged.
 use Rattle.std.proofs.Common.{◌≡◌, ◌≢◌, ◌⊎◌, ℕ, zero, suc, ◌+◌, ◌-◌, ◌<◌, ◌≤◌, Bool, true, false, List, [], ◌∷◌, ◌++◌, length, map, take, drop, set, get_or, Ok, Err, inl, inr, refl, sym, ap, ap₂, subst, ◌∙◌, arith, append-nil, append_assoc}
 use Rattle.std.specs.Prelude.{All}
+use Rattle.std.specs.VecDeque.{deque_capacity}
 use Rattle.std.specs.List.{AllZip}
 use Rattle.std.proofs.Math.Seq.{take-nil}
 use Rattle.std.proofs.lemmas.List.{length-append, length-map, length-set, get_or_append_left, get_or-append_right, get_or-map, take_all, get_or-set_same, get_or-set_other, same_lists}
@@ -172,7 +173,8 @@ ready_of starts mids its log ends ws stands h unjudged =
           let x : Side = some_of mids lane (omega (arith, lt, n)) in
           let t = h.each lane x x w (omega (arith, lt, n)) in
           record {
-            unjudged = unjudged lane w lt;
+            unjudged = (unjudged lane w lt).0;
+            room = (unjudged lane w lt).1;
             came = (let c = t.came in let f = ap length t.frames ∙ length-append (get_or mids lane x).frames (get_or ws lane w).frames.items in omega (arith, c, f));
           };
     }
@@ -608,7 +610,8 @@ unjudged_set ws lane d v lt all same other e within =
     elim (eqb_tells other lane) [
       | inl is ↦
           let P : ℕ → Type 0 = λ k. IsUnjudged (get_or (set ws lane v) k e) in
-          let at : P lane = rw (get_or-set_same ws lane v e lt) (ap (λ q. q.items) same ∙ all lane d lt) in
+          let one = all lane d lt in
+          let at : P lane = rw (get_or-set_same ws lane v e lt) (ap (λ q. q.items) same ∙ one.0, subst (λ n. 0 < n) (sym (ap (λ q. deque_capacity q) same)) one.1) in
           subst P (sym is.1) at
       | inr off ↦ rw (get_or-set_other ws lane other v e off.1) (all other e inside)
     ]

@@ -2,6 +2,7 @@ pub mod Cause
 pub mod Sent
 pub mod Heard
 pub mod Serving
+pub mod Codes
 pub mod Opening
 pub mod Waiting
 pub mod Sealed

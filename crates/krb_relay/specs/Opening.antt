@@ -1,6 +1,7 @@
 -- What opening the frames that wait gives.
 use Rattle.std.specs.Prelude.{◌≡◌, ℕ, ◌+◌, ◌<◌, ◌≤◌, List, [], length, take, get_or}
-use Rattle.std.specs.Prelude.{Option, Some, None}
+use Rattle.std.specs.Prelude.{Option, Some, None, slice_index_or, ◌∷◌}
+use Rattle.std.specs.VecDeque.{deque_capacity}
 use Rattle.krb_peers.specs.declared.receiver.Receiving.{Receiving}
 use Rattle.krb_peers.specs.Moments.{moment_at}
 use Rattle.krb_peers.specs.Order.{demand_after}
@@ -11,9 +12,10 @@ use Rattle.krb_relay.specs.declared.waiting.Waiting.{Waiting}
 abbrev pub HasMoment : Receiving → Type 0
 HasMoment receiving = 0 < length receiving.nows.items
 
--- the frames came through the lane, and have no verdicts yet
+-- the frames came through the lane, and have no verdicts yet, but room for one
 pub record IsReady (w : Waiting) : Type 0 where
   pub unjudged : w.verdicts.items ≡ []
+  pub room : 0 < deque_capacity w.verdicts
   pub came : length w.frames.items ≤ w.came
 
 -- the same of each lane
@@ -29,6 +31,34 @@ JudgesNext r place frame (Some v) now =
     (v ≡ verdict_by r.receiver (moment_at r.nows.items place) frame)
     × (now ≡ record r { receiver = receiver_after r.receiver v })
 JudgesNext r place frame None now = now ≡ r
+
+-- the verdict on the first frame of a lane, and the receiver after it; without a frame there is none
+abbrev pub JudgesFrame : Receiving → ℕ → List (List ℕ) → Option Verdict → Receiving → Type 0
+JudgesFrame r place [] v now = (v ≡ None) × (now ≡ r)
+JudgesFrame r place (frame ∷ rest) v now = JudgesNext r place frame v now
+
+abbrev pub JudgesFirst : Receiving → Waiting → Option Verdict → Receiving → Type 0
+JudgesFirst r w v now =
+    (place : ℕ) → place + length w.frames.items ≡ w.came → JudgesFrame r place w.frames.items v now
+
+-- as a list
+abbrev pub listed : Option Verdict → List Verdict
+listed None = []
+listed (Some v) = v ∷ []
+
+-- the verdict on the first frame was entered, and the rest stays
+pub record Enters (w : Waiting) (v : Option Verdict) (now : Waiting) : Type 0 where
+  pub came_is : now.came ≡ w.came
+  pub frames_are : now.frames.items ≡ w.frames.items
+  pub last_is : now.last ≡ w.last
+  pub verdicts_are : now.verdicts.items ≡ listed v
+
+-- the same of each lane
+pub record EntersEach (waiting : List Waiting) (verdicts : List (Option Verdict))
+    (now : List Waiting) : Type 0 where
+  pub lanes : length now ≡ length waiting
+  pub each : (lane : ℕ) (w v : Waiting) → lane < length waiting
+      → Enters (get_or waiting lane w) (slice_index_or verdicts lane None) (get_or now lane v)
 
 -- the verdicts on the first of these frames, the first of which has this place, and the receiver
 -- after them

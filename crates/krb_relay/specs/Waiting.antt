@@ -1,5 +1,6 @@
 -- What came through the lanes in a round, and waits for the log.
 use Rattle.std.specs.Prelude.{◌≡◌, ◌≢◌, ℕ, ◌<◌, ◌⊎◌, true, false, List, [], ◌∷◌, ◌++◌, length, get_or, All}
+use Rattle.std.specs.VecDeque.{deque_capacity}
 use Rattle.krb_base.specs.Bytes.{AreBytes}
 use Rattle.krb_lane.specs.Side.{Side}
 use Rattle.krb_peers.specs.declared.receiver.Receiving.{Receiving}
@@ -13,9 +14,9 @@ use Rattle.krb_relay.specs.declared.waiting.Waiting.{Waiting}
 use Rattle.krb_relay.specs.Opening.{HasJudged}
 use Rattle.krb_relay.specs.Serving.{Stands, Stops}
 
--- no frame has a verdict
+-- no frame has a verdict, and there is room for one
 abbrev pub IsUnjudged : Waiting → Type 0
-IsUnjudged w = w.verdicts.items ≡ []
+IsUnjudged w = (w.verdicts.items ≡ []) × (0 < deque_capacity w.verdicts)
 
 -- what follows the frames that wait, of a lane that was logged up to `mid` and taken up to `rx`
 abbrev pub Follows : Last → Side → Side → List (List ℕ) → Type 0

@@ -3,8 +3,8 @@
 //!
 //! [`relay`] starts a worker for each sender, which seals its texts and sends the frames, and
 //! receives in rounds on the calling thread: in each round one item of each lane whose end wasn't
-//! taken, by the lane's number. Where frames are long, those of a round are opened side by side, in
-//! threads that it waits for. The log is the same in every schedule: that of the stepped relay of
+//! taken, by the lane's number. The codes of a round's frames are computed together where they are many, and
+//! long frames are opened in threads that it waits for. The log is the same in every schedule: that of the stepped relay of
 //! `krb_core` when it runs to its end. A [`Gate`] is called before and after each seal call.
 //!
 //! ```rust crates/example_relay/src/main.rt
@@ -17,6 +17,7 @@
 #![tactic(auto)]
 
 mod cause;
+mod codes;
 mod fault;
 mod levels;
 mod logging;
@@ -26,6 +27,7 @@ mod running;
 mod serving;
 mod side_by_side;
 mod taking;
+mod together;
 mod waiting;
 mod work;
 mod worker;

@@ -1,12 +1,14 @@
 //! The frames that wait are opened, those of several lanes side by side.
 
 ghost use Rattle.std.specs.Prelude.{◌<◌, length};
+ghost use Rattle.std.specs.Option.{ForSome};
 ghost use denote.Param.Send.{IsSync};
+ghost use Rattle.krb_seal.specs.Covered.{IsCodedFrame};
 ghost use Rattle.krb_relay.specs.Opening.{AreReady, HasMoment, IsReady, JudgesNext, Opens, OpensEach};
 
 use crate::waiting::Waiting;
 use krb_peers::{Delivery, Receiving};
-use krb_seal::Refusal;
+use krb_seal::{Coded, Refusal};
 use std::alloc::Global;
 use std::thread::{Threads, join_mut};
 
@@ -82,25 +84,27 @@ fn open_lane(alloc: Global, receiving: &mut Receiving, waiting: &mut Waiting)
     let place = waiting.came - count;
     for k in 0..count {
         let frame = waiting.frames[k].as_slice();
-        match judge(receiving, alloc, frame, place + k) {
+        match judge(receiving, alloc, frame, None, place + k) {
             Some(verdict) => waiting.verdicts.push_back_reserved(verdict),
             None => return,
         }
     }
 }
 
-/// The verdict on the frame of this place, or `None` if memory ran out.
-fn judge(
+/// The verdict on the frame of this place, whose code may be given, or `None` if memory ran out.
+pub(crate) fn judge(
     receiving: &mut Receiving,
     alloc: Global,
     frame: &[u8],
+    coded: Option<Coded<'_>>,
     place: usize,
 ) -> Option<Result<Delivery, Refusal>>
     requires moments { HasMoment receiving.old }
+    requires coded { ForSome coded (IsCodedFrame receiving.old.receiver.opener frame.now) }
     ensures { JudgesNext receiving.old place frame.now result receiving.new }
 {
     let now = receiving.moment_at(place);
-    match receiving.receiver.take(alloc, frame, now) {
+    match receiving.receiver.take_coded(alloc, frame, coded, now) {
         Ok(delivery) => Some(Ok(delivery)),
         Err(Refusal::Memory) => None,
         Err(refusal) => Some(Err(refusal)),

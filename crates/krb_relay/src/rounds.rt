@@ -1,5 +1,5 @@
 //! The calling thread receives in rounds: each takes one item of each lane whose End wasn't taken.
-//! Where frames are long, those of a round are opened side by side.
+//! Where frames aren't short, those of a round are opened side by side.
 
 ghost use Rattle.std.specs.Prelude.{◌≡◌, ◌↔◌, ◌<◌, ◌+◌, length, map, All, IsTrue, IfErr, IfNone, IfSome, OnOk, OnErr};
 ghost use Rattle.std.specs.List.{AllZip};
@@ -11,7 +11,7 @@ ghost use Rattle.krb_relay.specs.Serving.{Drains, Stands, Stops, Turns, post};
 
 use crate::cause::OwnCause;
 use crate::fault::OwnFault;
-use crate::side_by_side::round_side_by_side;
+use crate::side_by_side::{ENOUGH, round_side_by_side};
 use krb_lane::{Item, LaneRx, Lost};
 use krb_peers::{Log, Receiving};
 use std::alloc::Global;
@@ -19,9 +19,11 @@ use std::snapshot::Snapshot;
 use std::sync::Wait;
 use std::thread::Threads;
 
-/// If a round had so many bytes, the frames of the next one are opened side by side. With fewer, threads
-/// would cost more than they save.
-const ENOUGH: usize = 1 << 17;
+/// If a round of so many lanes had so many bytes, the codes of the next one's frames are computed together.
+/// With fewer, that gains nothing.
+const MANY_LANES: usize = 4;
+
+const ENOUGH_TOGETHER: usize = 1 << 12;
 
 /// Serves all lanes to their Ends.
 pub(crate) fn serve_all<R: Threads + Wait + Sync>(
@@ -42,18 +44,33 @@ pub(crate) fn serve_all<R: Threads + Wait + Sync>(
     ensures stops { OnErr result (Stops starts.now.value.items ends.old ends.new log.new) }
     ensures same { map lane_of ends.new ≡ map lane_of ends.old }
 {
+    prepare(receivings);
+    let least = if ends.len() < MANY_LANES {
+        ENOUGH
+    } else {
+        ENOUGH_TOGETHER
+    };
     let mut bytes = 0;
     for _ in rt.forever() {
         if all_ended(ends) {
             return Ok(());
         }
-        bytes = if bytes < ENOUGH {
+        bytes = if bytes < least {
             round(rt, alloc, starts, ends, receivings, log)?
         } else {
             round_side_by_side(rt, alloc, starts, ends, receivings, log)?
         };
     }
     unreachable!()
+}
+
+/// Makes the keys of codes ready for several frames at a time.
+fn prepare(receivings: &mut [Receiving])
+    ensures { receivings.new ≡ receivings.old }
+{
+    for lane in 0..receivings.len() {
+        receivings[lane].receiver.prepare_batch();
+    }
 }
 
 /// Whether the End of each lane was taken.

@@ -42,22 +42,23 @@ pub(crate) fn none_waiting(alloc: Global, ends: &[LaneRx]) -> Result<Vec<Waiting
 {
     let mut all = Vec::with_capacity(alloc, ends.len())?;
     for rx in ends {
-        all.push(nothing_of(alloc, rx))?;
+        let nothing = nothing_of(alloc, rx)?;
+        all.push(nothing)?;
     }
     Ok(all)
 }
 
-/// Nothing waits of this lane.
-fn nothing_of(alloc: Global, rx: &LaneRx) -> Waiting
-    ensures taken { HasTaken rx.now rx.now result }
-    ensures unjudged { IsUnjudged result }
+/// Nothing waits of this lane. There is room for a verdict.
+fn nothing_of(alloc: Global, rx: &LaneRx) -> Result<Waiting, AllocError>
+    ensures taken { IfOk result (HasTaken rx.now rx.now) }
+    ensures unjudged { IfOk result IsUnjudged }
 {
-    Waiting {
+    Ok(Waiting {
         came: rx.count() as usize,
         frames: VecDeque::new(alloc),
-        verdicts: VecDeque::new(alloc),
+        verdicts: VecDeque::with_capacity(alloc, 1)?,
         last: last_of(rx),
-    }
+    })
 }
 
 /// What follows the frames of a lane that were taken so far.

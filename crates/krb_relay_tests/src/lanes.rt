@@ -122,12 +122,13 @@ impl Lanes {
         &mut self,
         alloc: Global,
         gate: &Watch,
+        long: bool,
         odd: Odd,
         texts: &[u8],
         size: usize,
     ) -> Result<(), Fail> {
         let all = texts_of(alloc, texts, size)?;
-        self.add_texts(alloc, gate, false, odd, all, 1)
+        self.add_texts(alloc, gate, long, odd, all, 1)
     }
 
     fn add_texts(

@@ -4,6 +4,7 @@
 
 mod long;
 mod sweep;
+mod together;
 
 use crate::asserts::{assert_log, assert_same, assert_sender};
 use crate::lanes::Lanes;

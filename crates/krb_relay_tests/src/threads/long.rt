@@ -11,7 +11,7 @@ use std::process::Abort;
 use std::test::Fail;
 
 /// Of each text. Three frames have more bytes than are opened in one thread.
-const SIZE: usize = 150_000;
+pub(super) const SIZE: usize = 150_000;
 
 /// The texts of each lane by their bytes.
 const TEXTS: [&[u8]; 3] = [b"abc", b"d", b"ef"];
@@ -40,13 +40,13 @@ const WITHOUT_LAST: [(u32, u8); 7] = [
     (0, b'.'),
 ];
 
-/// The byte of a text, `b'.'` of a close, and `b'!'` of anything else.
-fn byte_of(event: &Event) -> u8 {
+/// The byte of a text of this size, `b'.'` of a close, and `b'!'` of anything else.
+fn byte_of(event: &Event, size: usize) -> u8 {
     match event {
         Event::Text(text) => {
             let bytes = text.as_slice();
             match bytes.first() {
-                Some(first) if bytes.len() == SIZE && bytes.iter().all(|it| it == first) => *first,
+                Some(first) if bytes.len() == size && bytes.iter().all(|it| it == first) => *first,
                 _ => b'!',
             }
         }
@@ -55,11 +55,11 @@ fn byte_of(event: &Event) -> u8 {
     }
 }
 
-/// Asserts that a log has these rounds.
-pub(super) fn assert_rounds(rt: &impl Abort, log: &Log, rounds: &[(u32, u8)]) {
+/// Asserts that a log has these rounds of texts of this size.
+pub(super) fn assert_rounds(rt: &impl Abort, log: &Log, size: usize, rounds: &[(u32, u8)]) {
     assert_same(rt, log.entries().len(), rounds.len());
     for (entry, expected) in log.entries().iter().zip(rounds) {
-        assert_same(rt, (entry.lane, byte_of(&entry.event)), *expected);
+        assert_same(rt, (entry.lane, byte_of(&entry.event, size)), *expected);
     }
 }
 
@@ -78,11 +78,11 @@ fn at_place(rounds: &[(u32, u8)], lane: u32, place: usize) -> Option<u8> {
 }
 
 /// Asserts that what a log has of each lane begins as in these rounds.
-pub(super) fn assert_begins(rt: &impl Abort, log: &Log, rounds: &[(u32, u8)]) {
+pub(super) fn assert_begins(rt: &impl Abort, log: &Log, size: usize, rounds: &[(u32, u8)]) {
     let mut places = [0usize; 8];
     for entry in log.entries() {
         if let Some(place) = places.get_mut(entry.lane as usize) {
-            let found = Some(byte_of(&entry.event));
+            let found = Some(byte_of(&entry.event, size));
             assert_same(rt, found, at_place(rounds, entry.lane, *place));
             *place = place.wrapping_add(1);
         }
@@ -102,7 +102,7 @@ pub(super) fn lanes_of(
             fails_at: if lane + 1 == all.len() { fails_at } else { 0 },
             wiped: false,
         };
-        lanes.add_long(alloc, gate, odd, texts, SIZE)?;
+        lanes.add_long(alloc, gate, false, odd, texts, SIZE)?;
     }
     Ok(lanes)
 }
@@ -113,7 +113,7 @@ fn long_texts_are_logged_in_rounds(rt: HostRuntime) -> Result<(), Fail> {
         let gate = Watch::new(rt.alloc(), 0)?;
         let lanes = lanes_of(rt.alloc(), &gate, &TEXTS, 0)?;
         match lanes.run(&rt, rt.alloc(), capacity, &gate) {
-            Ok(report) => assert_rounds(&rt, &report.log, &ROUNDS),
+            Ok(report) => assert_rounds(&rt, &report.log, SIZE, &ROUNDS),
             Err(_) => return Err(Fail::from("a fault")),
         }
     }
@@ -129,7 +129,7 @@ fn long_texts_of_a_lane_that_stops_are_logged(rt: HostRuntime) -> Result<(), Fai
             return Err(Fail::from("no fault"));
         };
         assert_same(&rt, (fault.cause, fault.lane), (Cause::Memory, 2));
-        assert_rounds(&rt, &fault.log, &WITHOUT_LAST);
+        assert_rounds(&rt, &fault.log, SIZE, &WITHOUT_LAST);
     }
     Ok(())
 }

@@ -2,7 +2,7 @@
 //! the lines that report it.
 
 use super::PLAIN;
-use super::long::{assert_begins, assert_rounds, lanes_of};
+use super::long::{SIZE, assert_begins, assert_rounds, lanes_of};
 use crate::asserts::assert_same;
 use crate::lanes::Lanes;
 use crate::watch::{Odd, Watch};
@@ -48,9 +48,9 @@ fn long_texts_are_logged_until_memory_is_out(rt: HostRuntime) -> Result<(), Fail
     let gate = Watch::new(rt.alloc(), 0)?;
     let lanes = lanes_of(rt.alloc(), &gate, &[b"a", b"b"], 0)?;
     match lanes.run(&rt, rt.alloc(), 1, &gate) {
-        Ok(report) => assert_rounds(&rt, &report.log, &ROUNDS),
+        Ok(report) => assert_rounds(&rt, &report.log, SIZE, &ROUNDS),
         Err(fault) => {
-            assert_begins(&rt, &fault.log, &ROUNDS);
+            assert_begins(&rt, &fault.log, SIZE, &ROUNDS);
             println!(rt;
                 "refused: relay of long texts, {} at lane {}",
                 fault.cause, fault.lane

@@ -24,8 +24,8 @@ pub loop-rx-preserved : goal.loop-rx-preserved
 loop-rx-preserved c =
     let pushed = c.in_ok-push.ensures.items in
     record {
-      taken = one_more c.args.ends.now c.loop-rx.rx-index c.rx-item.result c.loop-rx.all.items c.push.new.self.items c.nothing_of.result c.loop-rx-test.true c.rx-item.is c.loop-rx.invariant.taken c.nothing_of.ensures.taken pushed;
-      unjudged = (let P : List Waiting → Type 0 = λ vs. All IsUnjudged vs in subst P (sym pushed) (unjudged_push c.loop-rx.all.items c.nothing_of.result c.loop-rx.invariant.unjudged c.nothing_of.ensures.unjudged));
+      taken = one_more c.args.ends.now c.loop-rx.rx-index c.rx-item.result c.loop-rx.all.items c.push.new.self.items c.in_ok-nothing.nothing c.loop-rx-test.true c.rx-item.is c.loop-rx.invariant.taken c.in_ok-nothing.ensures.taken pushed;
+      unjudged = (let P : List Waiting → Type 0 = λ vs. All IsUnjudged vs in subst P (sym pushed) (unjudged_push c.loop-rx.all.items c.in_ok-nothing.nothing c.loop-rx.invariant.unjudged c.in_ok-nothing.ensures.unjudged));
     }
 
 pub returns-clause-taken : goal.returns-clause-taken

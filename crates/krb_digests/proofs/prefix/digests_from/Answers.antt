@@ -5,12 +5,12 @@ use Rattle.krb_digests.specs.Lanes.{lane, message}
 use Rattle.krb_digests.specs.Rest.{rest_blocks}
 use Rattle.krb_digests.proofs.DigestLemmas.{hash_first, hash_next, digest_is}
 use Rattle.krb_digests.proofs.EndLemmas.{length-padded}
-use Rattle.krb_digests.proofs.prefix.Prefix.digests.Goals as goal
+use Rattle.krb_digests.proofs.prefix.digests_from.Goals as goal
 
 pub loop-n-init : goal.loop-n-init
 loop-n-init c block j size prefix lt =
     let rest = message j c.rests-rests.result in (
-      λ le. c.each-state.ensures j lt ∙ c.self.view_is ∙ prefix ∙ hash_first block rest size,
+      λ le. prefix ∙ hash_first block rest size,
       λ le. absurd (omega (arith, length-padded rest)),
     )
 
