@@ -63,3 +63,20 @@ def test_what_only_the_crate_was_timed_with_has_no_row_of_batches():
     both, longer = ("safe", 17, 64), ("safe", 17, 1_000_000)
     best = {(both, "made", "C"): 100.0, (both, "together", "C"): 250.0, (longer, "made", "krb_seal"): 3.0}
     assert list(bench.table_of_batches(best))[2:] == ["| safe 17, 64 bytes | 250 | 2.50 |"]
+
+
+@pytest.mark.parametrize("ours, row", [("v3", "| 64, 2 | 30 | 60 | 25 | 2.40 |"), ("v2", "| 64, 2 | 30 | 22 | 1.36 |")])
+def test_each_relay_has_the_best_of_its_runs(monkeypatch, ours, row):
+    bench = scripts.load("bench")
+    runs = {("v2", False): [10, 30], ("v3", False): [60, 50], ("v3", True): [20, 25], ("v2", True): [22, 21]}
+    monkeypatch.setattr(bench, "RELAYS", ((64, 6, 2),))
+    monkeypatch.setattr(bench.building, "program_of", lambda crate: "v2")
+    monkeypatch.setattr(bench.levels, "best_of", lambda crate: ours)
+    monkeypatch.setattr(bench, "relayed", lambda program, row, **how: runs[program, bool(how)].pop())
+    assert list(bench.table_of_relays(2))[2:] == [row]
+
+
+def test_a_relay_is_timed_on_all_cores_and_on_one(krb_bench):
+    bench = scripts.load("bench")
+    assert bench.relayed(krb_bench, (64, 6, 2)) > 0
+    assert bench.relayed(krb_bench, (64, 6, 2), preexec_fn=bench.on_one_core) > 0

@@ -14,7 +14,7 @@ import time
 import pytest
 
 from lib import parts, scripts
-from lib.build import building, groups, proving
+from lib.build import building, groups, levels, proving
 from lib.build import mutants as tables
 from copied import LIMIT, TO_END, Copy, are_left, started
 
@@ -324,6 +324,32 @@ def test_of_a_named_file_the_bytes_count(proved):
         assert proved.run("relay")[1] == "unproved\n", "nor is it taken in the place of the proved one"
     finally:
         shutil.copy(other, ours)
+
+
+# ---- the program of this machine's level
+
+WITH_LEVEL = {"GLIBC_TUNABLES": ""}
+needs_level = pytest.mark.skipif(not levels.own(), reason="this machine has no x86-64-v3")
+
+
+@needs_level
+def test_the_program_of_the_level_is_built_beside_the_plain_one(proved):
+    status, out, err, notes = proved.run("krbrelay --prove", **WITH_LEVEL)
+    assert (status == 0 and not out and len(notes) == 1 and " --cpu x86-64-v3 " in f"{notes[0]} "
+            and "krbrelay is being proved for x86-64-v3" in err)
+    assert proved.run("krbrelay --prove", **WITH_LEVEL) == (0, "", "", []), "it is built once"
+    assert proved.run("relay", **WITH_LEVEL) == (0, "levelled\n", "", ["levelled relay"])
+    assert proved.run("relay")[1] == "proved\n", "a machine without the level runs the plain one"
+    assert "proved seal" in proved.run("tests/residue --program", **WITH_LEVEL)[3], "and so do tests"
+
+
+@needs_level
+@pytest.mark.parametrize("given", [{"SAYS_CPU": "x86-64-v2"}, {"FAILS": "krb_c"}])
+def test_a_program_that_is_not_proved_for_the_level_is_not_taken(copy, given):
+    copy.run("relay")
+    status, out, err, _ = copy.run("krbrelay --prove", **WITH_LEVEL, **given)
+    assert status == 1 and not out and "krbrelay-x86-64-v3 isn't proved" in err
+    assert copy.run("relay", **WITH_LEVEL)[1] == "proved\n", "the plain one is proved, and is run"
 
 
 # ---- the C library's crate

@@ -73,12 +73,21 @@ PROVER = r'''#!/bin/sh
 echo "build $*" >> "$NOTES"
 [ "$FAILS" != krb_c ] || { echo goal left; exit 1; }
 while [ $# -gt 1 ]; do
-    case "$1" in --toolchain) tools=$2 ;; -o) made=$2 ;; esac
+    case "$1" in --toolchain) tools=$2 ;; -o) made=$2 ;; --cpu) cpu=$2 ;; esac
     shift
 done
+[ -z "$cpu" ] || echo "logic=proved cpu=${SAYS_CPU:-$cpu}"
 echo a module > "$made.bc"
 "$tools/bin/clang" -c "$made.bc" -o "$made.o" && echo of the prover > "$made"
 '''
+# And for the linker: the program that it makes notes that it is that of a level.
+LINKER = r'''#!/bin/sh
+while [ "$1" != -o ]; do shift; done
+printf '#!/bin/sh\necho levelled "$*" >> "$NOTES"\necho levelled\nexit 3\n' > "$2"
+chmod 755 "$2"
+'''
+# The loader of a machine without AVX2 knows of no x86-64-v3.
+WITHOUT_LEVEL = {"GLIBC_TUNABLES": "glibc.cpu.hwcaps=-AVX2_Usable,-AVX2"}
 COMPILER = "#!/bin/sh\nexit 0\n"
 
 
@@ -136,7 +145,8 @@ class Copy:
         write_script(os.path.join(tools, "bin", "clang"), COMPILER)
         write_script(os.path.join(programs, "rt"), KIT)
         write_script(os.path.join(programs, "rattle"), PROVER)
-        self.given = {**os.environ, "NOTES": self.notes, "ORIGINAL": self.top,
+        write_script(os.path.join(programs, "rattle-link"), LINKER)
+        self.given = {**os.environ, **WITHOUT_LEVEL, "NOTES": self.notes, "ORIGINAL": self.top,
                       "PATH": programs + ":" + os.environ["PATH"]}
 
     def begin(self, words, **given):

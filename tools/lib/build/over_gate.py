@@ -85,6 +85,12 @@ def words_for_program(crate, jobs, toolchain, output):
     return [*words, "--backend", "llvm", "--toolchain", toolchain, "-o", output]
 
 
+def words_to_link(program, toolchain):
+    """The words that link a program of its object, which lies beside it."""
+    return [building.prover() + "-link", "--target", TARGET, "--toolchain", toolchain,
+            "-o", program, f"{program}.o", *(os.path.join(kit(), "c", it) for it in KITS_C)]
+
+
 def words_to_build(crate, jobs, toolchain, output):
     """The words for what is built of a crate that no other stands on."""
     is_program = building.has_program(crate)
@@ -120,12 +126,9 @@ def build_program(folder, name, crates, jobs):
     """Proves and builds the program of a tool, whose sources are in src/ of a folder. Returns the
     program, or None, and what was said of one that isn't proved or isn't linked."""
     program, tools = os.path.join(folder, name), kit_compiler.toolchain()
-    linked = [os.path.join(kit(), "c", it) for it in KITS_C]
     proves = [*words_over(name, "src/main.rt", crates, jobs), "--backend", "llvm", "--toolchain", tools,
               "-o", f"{program}.o"]
-    links = [building.prover() + "-link", "--target", TARGET, "--toolchain", tools,
-             "-o", program, f"{program}.o", *linked]
-    for words in (proves, links):
+    for words in (proves, words_to_link(program, tools)):
         done = subprocess.run(words, check=False, cwd=folder, stdin=subprocess.DEVNULL,
                               stdout=subprocess.PIPE, stderr=subprocess.STDOUT, text=True)
         if done.returncode:
