@@ -14,6 +14,9 @@
 
 enum { NUMBER = 7, MOST = 262144, FRAME = MOST + 500, LINE = 200, CODE = 12, MANY = 8 };
 
+/* The least number with the longest encoding. */
+#define LONGEST 0x80000000u
+
 /* ---- the allocator, which counts; the library's calls come here too */
 
 void *__libc_malloc(size_t size);
@@ -52,6 +55,7 @@ static size_t data_len, frame_len, told, sizes[KRBRELAY_MOST_MESSAGES];
 static uint32_t kind, mode;
 static int32_t etype;
 static uint64_t demanded = NUMBER;
+static uint32_t first = NUMBER; /* the first number that is sealed */
 static struct krbrelay_moment now;
 static struct krbrelay_sealer sealer;
 static struct krbrelay_opener opener;
@@ -60,7 +64,7 @@ static struct krbrelay_peer peer;
 
 static enum krbrelay_answer new_sealer(void)
 {
-    struct krbrelay_session session = session_of(mode, NUMBER);
+    struct krbrelay_session session = session_of(mode, first);
     tell_receiver(&session);
     return krbrelay_sealer_new(&sealer, etype, key, key_size(etype), &session);
 }
@@ -79,7 +83,7 @@ static enum krbrelay_answer new_receiver(void)
 
 static enum krbrelay_answer new_peer(void)
 {
-    struct krbrelay_session session = session_of(mode, NUMBER);
+    struct krbrelay_session session = session_of(mode, first);
     struct krbrelay_demand demand = demand_of(1, 255, demanded);
     tell_receiver(&session);
     return krbrelay_peer_new(&peer, etype, key, key_size(etype), &session, &demand);
@@ -229,6 +233,16 @@ static void measure(const struct call *call, const char *what)
     measure_after(call, 0, what);
 }
 
+/* The call where each message's number has the longest encoding. */
+static void measure_longest(const struct call *call)
+{
+    first = LONGEST;
+    seal_frames();
+    measure(call, "the longest numbers");
+    first = NUMBER;
+    seal_frames();
+}
+
 /* The frame ends by its checksum or code. */
 static void measure_changed(const struct call *call, size_t at, const char *what)
 {
@@ -259,6 +273,8 @@ static void measure_all(int count, char **names)
         measure(&calls[i], "done");
         if (is_of_many(&calls[i]))
             measure_after(&calls[i], 1, "done again");
+        if (is_of_many(&calls[i]) && calls[i].made != take_many)
+            measure_longest(&calls[i]);
         if (!calls[i].opens || calls[i].made == header)
             continue;
         measure_changed(&calls[i], frame_len - CODE, "first of the code changed");

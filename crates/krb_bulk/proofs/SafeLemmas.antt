@@ -1,7 +1,8 @@
 -- What is made of one KRB-SAFE, from what is known of it, and what a buffer holds of eight.
-use Rattle.std.proofs.Common.{◌≡◌, ℕ, ◌+◌, ◌-◌, ◌<◌, ◌≤◌, List, ◌++◌, length, take, drop, refl, sym, ap, subst, ◌∙◌, arith, append_assoc, length-append}
+use Rattle.std.proofs.Common.{◌≡◌, ℕ, ◌+◌, ◌-◌, ◌<◌, ◌≤◌, List, ◌++◌, length, take, drop, Some, refl, sym, ap, subst, ◌∙◌, arith, append_assoc, length-append}
 use Rattle.std.proofs.lemmas.List.{drop-append-le, length-drop, take-append-le, take_all}
 use Rattle.std.proofs.Math.Seq.{drop-append_seam}
+use Rattle.std.specs.Prelude.{slice_get}
 use Rattle.krb_der.specs.declared.body.Body.{Body}
 use Rattle.krb_der.specs.declared.safe.SafeDraft.{SafeDraft}
 use Rattle.krb_der.specs.declared.safe.SafeMsg.{SafeMsg}
@@ -15,13 +16,15 @@ use Rattle.krb_keys.specs.Hmac.{hmac96}
 use Rattle.krb_keys.proofs.HmacLemmas.{length-hmac96}
 use Rattle.krb_seal.specs.declared.session.Mode.{Mode}
 use Rattle.krb_seal.specs.declared.session.Mode.TheVariants.{Safe, Priv}
+use Rattle.krb_seal.proofs.Frames.{short_fields}
 use Rattle.krb_seal.specs.Checksum.{PutsCovered}
 use Rattle.krb_seal.specs.Seals.{SealsBody, safe_checksum, sealed_safe, unsigned}
 use Rattle.krb_bulk.specs.declared.bulk.Bulk.{Bulk}
 use Rattle.krb_bulk.specs.declared.safe.Unsummed.{Unsummed}
 use Rattle.krb_bulk.specs.declared.four.Four.{Four}
+use Rattle.krb_bulk.specs.declared.unsealed.Unsealed.{Unsealed}
 use Rattle.krb_bulk.specs.Four.{AreEach, AreFrom}
-use Rattle.krb_bulk.specs.BulkInside.{AreSums, Extends, HasInput, HasInputAt, HasSum, IsSumAt, IsUnsummed, IsUnsummedAt, LiesIn, SealsAt, body_at, input_of}
+use Rattle.krb_bulk.specs.BulkInside.{AreSums, Extends, HasInput, HasInputAt, HasShortFields, HasSum, IsDraft, IsDraftAt, IsSumAt, IsUnsummedAt, LiesIn, PutsInput, PutsInputs, SealsAt, body_at, input_of}
 use Rattle.krb_bulk.proofs.BulkLemmas.{message_at}
 
 -- the message that carries what was made
@@ -29,11 +32,30 @@ whole_of : (etype : Etype) (made b : Body) (m : SafeMsg) → made ≡ b → m �
 whole_of etype made b m same is = is ∙ ap (λ (x : Body). unsigned etype x) same
 
 -- a draft of what the message carries
-pub unsummed_of : (etype : Etype) (conf : List ℕ) (made b : Body) (m : SafeMsg) (u : Unsummed) → length conf ≡ confounder_size → made ≡ b → m ≡ unsigned etype made
-    → IsSafeDraft m m.cksum_type 12 u.draft → IsUnsummed etype conf b u
-unsummed_of etype conf made b m u size same is d = record {
+pub draft_of : (etype : Etype) (conf : List ℕ) (made b : Body) (m : SafeMsg) (draft : SafeDraft) → length conf ≡ confounder_size → made ≡ b → m ≡ unsigned etype made
+    → IsSafeDraft m m.cksum_type 12 draft → IsDraft etype conf b draft
+draft_of etype conf made b m draft size same is d = record {
   confounder = size;
-  draft = subst (λ (x : SafeMsg). IsSafeDraft x x.cksum_type 12 u.draft) (whole_of etype made b m same is) d;
+  draft = subst (λ (x : SafeMsg). IsSafeDraft x x.cksum_type 12 draft) (whole_of etype made b m same is) d;
+}
+
+-- its fields are short
+short_at : (b : Bulk) (k : ℕ) (draft : SafeDraft) → k < length b.messages.now → IsDraftAt b k draft → HasShortFields draft
+short_at b k draft lt h =
+    let m = message_at b.messages.now k lt in
+    let d = (h m.0 m.1).draft in
+    record {
+      within = d.within;
+      short = short_fields (unsigned b.parts.etype (body_at b k m.0)) (checksum_number b.parts.etype) draft d;
+    }
+
+-- those of four are
+pub short_from : (b : Bulk) (from : ℕ) (four : Four SafeDraft) → from + 4 ≤ length b.messages.now → AreFrom (IsDraftAt b) from four → AreEach HasShortFields four
+short_from b from four le h = record {
+  a = short_at b from four.a (omega (arith, le)) h.a;
+  b = short_at b (from + 1) four.b (omega (arith, le)) h.b;
+  c = short_at b (from + 2) four.c (omega (arith, le)) h.c;
+  d = short_at b (from + 3) four.d (omega (arith, le)) h.d;
 }
 
 -- the bytes under its checksum, after they were appended
@@ -48,15 +70,17 @@ put_input m old new u is first last =
       input = ap (λ (s : List ℕ). take (u.end - u.start) s) rest ∙ take_all (u.end - u.start) i (omega (arith, size, first, last));
     }
 
-pub input_put : (etype : Etype) (made b : Body) (m : SafeMsg) (fields old new : List ℕ) (u : Unsummed) → made ≡ b → m ≡ unsigned etype made → IsSafeDraft m m.cksum_type 12 u.draft
-    → fields ≡ drop u.draft.start u.draft.bytes.items → PutsCovered fields old new → u.start ≡ length old → u.end ≡ length new → HasInput (unsigned etype b) new u
-input_put etype made b m fields old new u same is d from puts first last =
-    subst (λ (x : SafeMsg). HasInput x new u) (whole_of etype made b m same is)
-    (put_input m old new u (puts m (sym (from ∙ d.fields))) first last)
-
-pub put_extends : (m : SafeMsg) (fields old new : List ℕ) (draft : SafeDraft) → IsSafeDraft m m.cksum_type 12 draft → fields ≡ drop draft.start draft.bytes.items
-    → PutsCovered fields old new → Extends old new
-put_extends m fields old new draft d from puts = (safe_input m, puts m (sym (from ∙ d.fields)))
+pub put_at : (b : Bulk) (k : ℕ) (fields old new : List ℕ) (u : Unsummed) → k < length b.messages.now → IsDraftAt b k u.draft → fields ≡ drop u.draft.start u.draft.bytes.items
+    → PutsCovered fields old new → u.start ≡ length old → u.end ≡ length new → PutsInput b k old new u
+put_at b k fields old new u lt h from puts first last =
+    let at : (m : Unsealed) → slice_get b.messages.now k ≡ Some m → new ≡ old ++ safe_input (unsigned b.parts.etype (body_at b k m)) =
+    λ m found. puts (unsigned b.parts.etype (body_at b k m)) (sym (from ∙ (h m found).draft.fields)) in
+    let one = message_at b.messages.now k lt in
+    record {
+      unsummed = h;
+      input = λ m found. put_input (unsigned b.parts.etype (body_at b k m)) old new u (at m found) first last;
+      kept = (safe_input (unsigned b.parts.etype (body_at b k one.0)), at one.0 one.1);
+    }
 
 -- ---- a buffer that grows
 
@@ -84,15 +108,20 @@ four_kept b from four xs ys e h = record {
 }
 
 -- four that were put one after another
-pub four_put : (b : Bulk) (from : ℕ) (four : Four Unsummed) (s t u v : List ℕ) → Extends s t → Extends t u → Extends u v → HasInputAt b s from four.a
-    → HasInputAt b t (from + 1) four.b → HasInputAt b u (from + 2) four.c → HasInputAt b v (from + 3) four.d → AreFrom (HasInputAt b v) from four
-four_put b from four s t u v st tu uv ha hb hc hd =
-    let tv = extends_on t u v tu uv in
+pub four_put : (b : Bulk) (from : ℕ) (four : Four Unsummed) (s t u v w : List ℕ) → PutsInput b from s t four.a → PutsInput b (from + 1) t u four.b
+    → PutsInput b (from + 2) u v four.c → PutsInput b (from + 3) v w four.d → PutsInputs b from s w four
+four_put b from four s t u v w pa pb pc pd =
+    let uw = extends_on u v w pc.kept pd.kept in
+    let tw = extends_on t u w pb.kept uw in
     record {
-      a = kept_at b from four.a s v (extends_on s t v st tv) ha;
-      b = kept_at b (from + 1) four.b t v tv hb;
-      c = kept_at b (from + 2) four.c u v uv hc;
-      d = hd;
+      unsummed = record { a = pa.unsummed; b = pb.unsummed; c = pc.unsummed; d = pd.unsummed };
+      input = record {
+        a = kept_at b from four.a t w tw pa.input;
+        b = kept_at b (from + 1) four.b u w uw pb.input;
+        c = kept_at b (from + 2) four.c v w pd.kept pc.input;
+        d = pd.input;
+      };
+      kept = extends_on s t w pa.kept tw;
     }
 
 lies_at : (b : Bulk) (inputs : List ℕ) (k : ℕ) (u : Unsummed) → k < length b.messages.now → HasInputAt b inputs k u → LiesIn inputs u
@@ -134,7 +163,7 @@ sums_in b inputs held from four sums is h are =
     sums_from b inputs from four sums h (subst (λ (s : List ℕ). AreSums b.parts.keys.now.key s four sums) is are)
 
 -- the frame of a KRB-SAFE
-safe_frame : (etype : Etype) (key conf : List ℕ) (b : Body) (u : Unsummed) (sum frame : List ℕ) → IsUnsummed etype conf b u
+safe_frame : (etype : Etype) (key conf : List ℕ) (b : Body) (u : Unsummed) (sum frame : List ℕ) → IsDraft etype conf b u.draft
     → sum ≡ safe_checksum key (unsigned etype b) → HasSum etype u sum frame → SealsBody Safe (number_of etype) key conf b frame
 safe_frame etype key conf b u sum frame h same made =
     let own : List ℕ = safe_checksum key (unsigned etype b) in

@@ -4,7 +4,9 @@ use Rattle.std.specs.Global.{Vec}
 use Rattle.krb_aes.specs.Keys.{expanded_key}
 use Rattle.krb_aes.specs.Stealing.{cts}
 use Rattle.krb_base.specs.Bytes.{AreBytes}
+use Rattle.krb_base.specs.Limits.{frame_limit}
 use Rattle.krb_der.specs.declared.body.Body.{Body}
+use Rattle.krb_der.specs.declared.safe.SafeDraft.{SafeDraft}
 use Rattle.krb_der.specs.declared.safe.SafeMsg.{SafeMsg}
 use Rattle.krb_der.specs.Body.{IsBody, part}
 use Rattle.krb_der.specs.Safe.{checksum_field}
@@ -25,7 +27,7 @@ use Rattle.krb_bulk.specs.declared.four.Four.{Four}
 use Rattle.krb_bulk.specs.declared.private.Plain.{Plain}
 use Rattle.krb_bulk.specs.declared.safe.Unsummed.{Unsummed}
 use Rattle.krb_bulk.specs.declared.unsealed.Unsealed.{Unsealed}
-use Rattle.krb_bulk.specs.Four.{AreBoth}
+use Rattle.krb_bulk.specs.Four.{AreBoth, AreFrom}
 use Rattle.krb_bulk.specs.Many.{CanSealInTurn, SealsInTurn, SealsMessage}
 
 -- The sealer that seals them.
@@ -102,14 +104,21 @@ pub record Enciphers (key : List ℕ) (plain : Plain) (written : List ℕ) : Typ
 -- ---- KRB-SAFE
 
 -- A KRB-SAFE that has no checksum yet. The confounder goes nowhere.
-pub record IsUnsummed (etype : Etype) (conf : List ℕ) (b : Body) (unsummed : Unsummed)
-    : Type 0 where
+pub record IsDraft (etype : Etype) (conf : List ℕ) (b : Body) (draft : SafeDraft) : Type 0 where
   pub confounder : length conf ≡ confounder_size
-  pub draft : IsSafeDraft (unsigned etype b) (checksum_number etype) 12 unsummed.draft
+  pub draft : IsSafeDraft (unsigned etype b) (checksum_number etype) 12 draft
 
 -- It is that of the message with this index.
+abbrev pub IsDraftAt : Bulk → ℕ → SafeDraft → Type 0
+IsDraftAt b k draft = OfMessage b k (λ m. IsDraft b.parts.etype m.confounder (body_at b k m) draft)
+
 abbrev pub IsUnsummedAt : Bulk → ℕ → Unsummed → Type 0
-IsUnsummedAt b k u = OfMessage b k (λ m. IsUnsummed b.parts.etype m.confounder (body_at b k m) u)
+IsUnsummedAt b k u = IsDraftAt b k u.draft
+
+-- The fields before its checksum are in it, and no more than a frame may have.
+pub record HasShortFields (draft : SafeDraft) : Type 0 where
+  pub within : draft.start ≤ length draft.bytes.items
+  pub short : length (drop draft.start draft.bytes.items) ≤ frame_limit
 
 -- The bytes of a buffer that belong to it.
 abbrev pub input_of : List ℕ → Unsummed → List ℕ
@@ -132,6 +141,19 @@ HasInputAt b inputs k u =
 -- Bytes were appended.
 abbrev pub Extends : List ℕ → List ℕ → Type 0
 Extends old new = (more : List ℕ) × (new ≡ old ++ more)
+
+-- Those under the checksum of the message with this index were.
+pub record PutsInput (b : Bulk) (k : ℕ) (old new : List ℕ) (u : Unsummed) : Type 0 where
+  pub unsummed : IsUnsummedAt b k u
+  pub input : HasInputAt b new k u
+  pub kept : Extends old new
+
+-- Those of four messages from this index on were.
+pub record PutsInputs (b : Bulk) (from : ℕ) (old new : List ℕ) (four : Four Unsummed)
+    : Type 0 where
+  pub unsummed : AreFrom (IsUnsummedAt b) from four
+  pub input : AreFrom (HasInputAt b new) from four
+  pub kept : Extends old new
 
 -- The bytes are this KRB-SAFE with this checksum.
 abbrev pub HasSum : Etype → Unsummed → List ℕ → List ℕ → Type 0

@@ -1,44 +1,36 @@
 //! KRB-SAFE, eight at a time.
 
-ghost use Rattle.std.specs.Prelude.{◌≡◌, ◌≤◌, ◌+◌, ◌<◌, ℕ, List, [], length, IfOk, OnOk};
+ghost use Rattle.std.specs.Prelude.{◌≡◌, ◌≤◌, ◌+◌, ◌<◌, ℕ, List, length, IfOk};
 ghost use Rattle.krb_etype.specs.Keys.{checksum_key};
 ghost use Rattle.krb_keys.specs.BatchMac.{HoldsBatchKey};
 ghost use Rattle.krb_seal.specs.declared.session.Mode.TheVariants.{Safe};
 ghost use Rattle.krb_bulk.specs.Four.{AreEach, AreFrom};
-ghost use Rattle.krb_bulk.specs.BulkInside.{AreSums, Extends, HasInputAt, HasSum, IsReady, IsSumAt, IsUnsummedAt, LiesIn, SealsAt, input_of};
+ghost use Rattle.krb_bulk.specs.BulkInside.{AreSums, HasShortFields, HasSum, IsDraftAt, IsReady, IsSumAt, IsUnsummedAt, LiesIn, PutsInput, PutsInputs, SealsAt, input_of};
+ghost use Rattle.krb_bulk.specs.declared.bulk.Bulk.{Bulk};
 
 use crate::bulk::Bulk;
 use crate::four::{Four, eight_codes};
 use crate::unsealed::known_confounder;
-use krb_der::{HostAddress, SafeDraft, draft_safe};
+use krb_der::{SafeDraft, draft_safe};
 use krb_etype::CODE_SIZE;
 use krb_keys::BatchMac;
 use krb_seal::{put_checksum_input, unsigned, within_limit};
 use std::alloc::{AllocError, Global};
 
-/// The most bytes that a message has under its checksum beside its addresses and its data, if these are
-/// few.
-const AROUND_FEW: usize = 72;
+/// The bytes of the last field under a checksum, which stands for none (RFC 4120 section 5.6.1).
+const NO_CHECKSUM_SIZE: usize = 13;
 
-/// The same of other data.
-const AROUND_MANY: usize = 85;
-
-/// The bytes of a field with an address beside the address's own, if these are few.
-const AROUND_ADDRESS: usize = 13;
-
-/// The most bytes that a message with so many bytes of data has under its checksum beside its addresses.
-fn size_around(data: usize) -> usize {
-    let around = if data < 128 { AROUND_FEW } else { AROUND_MANY };
-    data.saturating_add(around)
+/// The most bytes under the checksum of a message: those before its checksum, and the field for none.
+fn input_size(draft: &SafeDraft) -> usize {
+    draft.bytes.len().saturating_add(NO_CHECKSUM_SIZE)
 }
 
-/// The bytes of a field with an address, if its own are few.
-fn address_size(address: &HostAddress) -> usize {
-    address
-        .bytes
-        .as_slice()
-        .len()
-        .saturating_add(AROUND_ADDRESS)
+/// The most of four messages.
+fn input_sizes(drafts: &Four<SafeDraft>) -> usize {
+    input_size(&drafts.a)
+        .saturating_add(input_size(&drafts.b))
+        .saturating_add(input_size(&drafts.c))
+        .saturating_add(input_size(&drafts.d))
 }
 
 /// A KRB-SAFE that has no checksum yet. The bytes under its checksum (RFC 4120 section 5.6.1) lie in
@@ -53,6 +45,22 @@ pub struct Unsummed {
 }
 
 impl Unsummed {
+    /// That of a draft. The bytes under its checksum are appended to a buffer.
+    fn new(draft: SafeDraft, inputs: &mut Vec<u8>) -> Result<Unsummed, AllocError>
+        requires { HasShortFields draft }
+        ensures { IfOk result (λ u. (b : Bulk) (index : ℕ) → index < length b.messages.now
+            → IsDraftAt b index draft
+            → PutsInput b index inputs.old.items inputs.new.items u) }
+    {
+        let start = inputs.len();
+        put_checksum_input(inputs, draft.fields())?;
+        Ok(Unsummed {
+            draft,
+            start,
+            end: inputs.len(),
+        })
+    }
+
     /// The bytes under its checksum.
     fn input<'a>(&self, inputs: &'a [u8]) -> &'a [u8]
         requires { LiesIn inputs.now self.now }
@@ -60,6 +68,25 @@ impl Unsummed {
     {
         &inputs[self.start..self.end]
     }
+}
+
+/// Those of four drafts. The bytes under their checksums are appended to a buffer.
+fn four_unsummed(
+    drafts: Four<SafeDraft>,
+    inputs: &mut Vec<u8>,
+) -> Result<Four<Unsummed>, AllocError>
+    requires { AreEach HasShortFields drafts }
+    ensures { IfOk result (λ four. (b : Bulk) (from : ℕ) → from + 4 ≤ length b.messages.now
+        → AreFrom (IsDraftAt b) from drafts
+        → PutsInputs b from inputs.old.items inputs.new.items four) }
+{
+    let Four { a, b, c, d } = drafts;
+    Ok(Four {
+        a: Unsummed::new(a, inputs)?,
+        b: Unsummed::new(b, inputs)?,
+        c: Unsummed::new(c, inputs)?,
+        d: Unsummed::new(d, inputs)?,
+    })
 }
 
 /// The checksums of eight messages, side by side.
@@ -90,66 +117,29 @@ fn eight_sums(
 }
 
 impl Bulk<'_, '_, '_> {
-    /// A buffer with room for the bytes under the checksums of eight messages from this index on. It
-    /// grows if they have more.
-    fn inputs(&self, alloc: Global, from: usize) -> Result<Vec<u8>, AllocError>
-        requires { from + 8 ≤ length self.now.messages.now }
-        ensures { IfOk result (λ v. v.items ≡ []) }
-    {
-        let session = self.parts.session;
-        let receiver = session.r_addr.as_ref().map_or(0, address_size);
-        let addresses = address_size(&session.s_addr).saturating_add(receiver);
-        let mut size = addresses.saturating_mul(8);
-        for message in &self.messages[from..from + 8] {
-            size = size.saturating_add(size_around(message.user_data.len()));
-        }
-        Vec::with_capacity(alloc, size)
-    }
-
-    /// The KRB-SAFE of the message with this index, which has no checksum yet. The bytes under its
-    /// checksum are appended to a buffer.
-    fn unsummed(
-        &self,
-        alloc: Global,
-        inputs: &mut Vec<u8>,
-        index: usize,
-    ) -> Result<Unsummed, AllocError>
+    /// The KRB-SAFE of the message with this index, which has no checksum yet.
+    fn draft(&self, alloc: Global, index: usize) -> Result<SafeDraft, AllocError>
         requires ready { IsReady self.now }
         requires index { index < length self.now.messages.now }
-        ensures unsummed { IfOk result (IsUnsummedAt self.now index) }
-        ensures input { IfOk result (HasInputAt self.now inputs.new.items index) }
-        ensures kept { OnOk result (Extends inputs.old.items inputs.new.items) }
+        ensures { IfOk result (IsDraftAt self.now index) }
     {
         known_confounder(&self.messages[index].confounder);
         let message = unsigned(self.parts.etype, self.body(index));
-        let draft = within_limit(draft_safe(alloc, &message, CODE_SIZE))?;
-        let start = inputs.len();
-        put_checksum_input(inputs, draft.fields())?;
-        Ok(Unsummed {
-            draft,
-            start,
-            end: inputs.len(),
-        })
+        within_limit(draft_safe(alloc, &message, CODE_SIZE))
     }
 
     /// Those of four messages from this index on.
-    fn four_unsummed(
-        &self,
-        alloc: Global,
-        inputs: &mut Vec<u8>,
-        from: usize,
-    ) -> Result<Four<Unsummed>, AllocError>
+    fn four_drafts(&self, alloc: Global, from: usize) -> Result<Four<SafeDraft>, AllocError>
         requires ready { IsReady self.now }
         requires from { from + 4 ≤ length self.now.messages.now }
-        ensures unsummed { IfOk result (AreFrom (IsUnsummedAt self.now) from) }
-        ensures input { IfOk result (AreFrom (HasInputAt self.now inputs.new.items) from) }
-        ensures kept { OnOk result (Extends inputs.old.items inputs.new.items) }
+        ensures { IfOk result (AreFrom (IsDraftAt self.now) from) }
     {
-        let a = self.unsummed(alloc, inputs, from)?;
-        let b = self.unsummed(alloc, inputs, from + 1)?;
-        let c = self.unsummed(alloc, inputs, from + 2)?;
-        let d = self.unsummed(alloc, inputs, from + 3)?;
-        Ok(Four { a, b, c, d })
+        Ok(Four {
+            a: self.draft(alloc, from)?,
+            b: self.draft(alloc, from + 1)?,
+            c: self.draft(alloc, from + 2)?,
+            d: self.draft(alloc, from + 3)?,
+        })
     }
 
     /// The frame of a message with this checksum.
@@ -199,9 +189,12 @@ impl Bulk<'_, '_, '_> {
         ensures second { IfOk result (λ r.
             AreFrom (λ k v. SealsAt self.now k v.items) (from + 4) r.1) }
     {
-        let mut inputs = self.inputs(alloc, from)?;
-        let first = self.four_unsummed(alloc, &mut inputs, from)?;
-        let second = self.four_unsummed(alloc, &mut inputs, from + 4)?;
+        let first = self.four_drafts(alloc, from)?;
+        let second = self.four_drafts(alloc, from + 4)?;
+        let room = input_sizes(&first).saturating_add(input_sizes(&second));
+        let mut inputs = Vec::with_capacity(alloc, room)?;
+        let first = four_unsummed(first, &mut inputs)?;
+        let second = four_unsummed(second, &mut inputs)?;
         let (sums, others) = eight_sums(mac, &inputs, &first, &second);
         let first = self.four_summed(from, first, &sums)?;
         let second = self.four_summed(from + 4, second, &others)?;

@@ -1,8 +1,8 @@
 //! Relays where each allocation in turn may fail. `tests/sweep` makes the allocations fail, and counts
 //! the lines that report it.
 
-use super::PLAIN;
 use super::long::{SIZE, assert_begins, assert_rounds, lanes_of};
+use super::{PLAIN, together};
 use crate::asserts::assert_same;
 use crate::lanes::Lanes;
 use crate::watch::{Odd, Watch};
@@ -53,6 +53,24 @@ fn long_texts_are_logged_until_memory_is_out(rt: HostRuntime) -> Result<(), Fail
             assert_begins(&rt, &fault.log, SIZE, &ROUNDS);
             println!(rt;
                 "refused: relay of long texts, {} at lane {}",
+                fault.cause, fault.lane
+            )?;
+        }
+    }
+    Ok(())
+}
+
+/// Without memory for a frame of many lanes, what the log has of each lane begins as in the whole relay.
+#[test]
+fn frames_of_many_lanes_are_logged_until_memory_is_out(rt: HostRuntime) -> Result<(), Fail> {
+    let gate = Watch::new(rt.alloc(), 0)?;
+    let lanes = together::lanes_of(rt.alloc(), &gate)?;
+    match lanes.run(&rt, rt.alloc(), 1, &gate) {
+        Ok(report) => assert_rounds(&rt, &report.log, together::SIZE, &together::ROUNDS),
+        Err(fault) => {
+            assert_begins(&rt, &fault.log, together::SIZE, &together::ROUNDS);
+            println!(rt;
+                "refused: relay of many lanes, {} at lane {}",
                 fault.cause, fault.lane
             )?;
         }

@@ -2,14 +2,14 @@
 //! lane's frames are, in the order of the rounds.
 
 use super::PLAIN;
-use super::long::{assert_begins, assert_rounds};
+use super::long::assert_rounds;
 use crate::lanes::Lanes;
 use crate::watch::Watch;
 use std::alloc::Global;
 use std::test::Fail;
 
 /// Of each text. Five frames have more bytes than a round before one that is opened together.
-const SIZE: usize = 900;
+pub const SIZE: usize = 900;
 
 /// Of each lane whether its frames are KRB-PRIV of type 18, else KRB-SAFE of type 17, and its texts by their
 /// bytes.
@@ -29,7 +29,7 @@ const PLAN: [usize; 4] = [0, 0, 1, 2];
 
 /// The rounds, worked out by hand: of each entry its lane, and the text's byte, `b'.'` of a close and `b'!'`
 /// of a refusal.
-const ROUNDS: [(u32, u8); 26] = [
+pub const ROUNDS: [(u32, u8); 26] = [
     (0, b'a'),
     (1, b'd'),
     (2, b'g'),
@@ -59,7 +59,7 @@ const ROUNDS: [(u32, u8); 26] = [
 ];
 
 /// These lanes.
-fn lanes_of(alloc: Global, gate: &Watch) -> Result<Lanes, Fail> {
+pub fn lanes_of(alloc: Global, gate: &Watch) -> Result<Lanes, Fail> {
     let mut lanes = Lanes::new(alloc);
     for (lane, (long, texts)) in TEXTS.iter().enumerate() {
         lanes.add_long(alloc, gate, *long, PLAIN, texts, SIZE)?;
@@ -78,25 +78,6 @@ fn frames_of_many_lanes_are_logged_in_rounds(rt: HostRuntime) -> Result<(), Fail
         match lanes.run(&rt, rt.alloc(), capacity, &gate) {
             Ok(report) => assert_rounds(&rt, &report.log, SIZE, &ROUNDS),
             Err(_) => return Err(Fail::from("a fault")),
-        }
-    }
-    Ok(())
-}
-
-/// `tests/sweep` makes each allocation fail in turn: without memory for a frame, what the log has of each
-/// lane begins as in the whole relay.
-#[test]
-fn frames_of_many_lanes_are_logged_until_memory_is_out(rt: HostRuntime) -> Result<(), Fail> {
-    let gate = Watch::new(rt.alloc(), 0)?;
-    let lanes = lanes_of(rt.alloc(), &gate)?;
-    match lanes.run(&rt, rt.alloc(), 1, &gate) {
-        Ok(report) => assert_rounds(&rt, &report.log, SIZE, &ROUNDS),
-        Err(fault) => {
-            assert_begins(&rt, &fault.log, SIZE, &ROUNDS);
-            println!(rt;
-                "refused: relay of many lanes, {} at lane {}",
-                fault.cause, fault.lane
-            )?;
         }
     }
     Ok(())
