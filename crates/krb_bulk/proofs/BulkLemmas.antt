@@ -1,6 +1,6 @@
 -- What is made of one message, from what is known of it.
-use Rattle.std.proofs.Common.{◌≡◌, ℕ, ◌+◌, ◌<◌, ◌≤◌, List, [], ◌∷◌, ◌++◌, length, take, drop, Option, Some, refl, sym, ap, subst, ◌∙◌, arith, get_or, length-append}
-use Rattle.std.specs.Prelude.{slice_get}
+use Rattle.std.proofs.Common.{◌≡◌, ℕ, ◌+◌, ◌<◌, ◌≤◌, List, [], ◌∷◌, ◌++◌, length, take, drop, Option, Some, Result, Ok, Err, refl, sym, ap, subst, ◌∙◌, arith, get_or, length-append}
+use Rattle.std.specs.Prelude.{IfOk, slice_get}
 use Rattle.std.proofs.lemmas.List.{append_assoc}
 use Rattle.std.proofs.lemmas.Option.{get_or_from_slice_get, slice_get-get_or}
 use Rattle.krb_aes.specs.Keys.{expanded_key}
@@ -39,6 +39,11 @@ same_found x y e = cc
 
 pub of_found : {A : Type 0} (P : A → Type 0) (xs : List A) (i : ℕ) (x : A) → slice_get xs i ≡ Some x → P x → (y : A) → slice_get xs i ≡ Some y → P y
 of_found P xs i x found h y e = subst P (same_found x y (sym found ∙ e)) h
+
+-- what follows from what holds of a success
+pub if_ok : {T E : Type 0} (P Q : T → Type 0) (r : Result T E) → ((v : T) → P v → Q v) → IfOk r P → IfOk r Q
+if_ok P Q (Ok v) f h = f v h
+if_ok P Q (Err e) f h = h
 
 -- what a message carries is small
 pub small_body : (b : Bulk) (k : ℕ) (m : Unsealed) (body : Body) → body ≡ body_at b k m → length m.user_data.now ≤ user_data_limit → HasShortAddresses b.parts.session.now

@@ -36,14 +36,14 @@ pub draft_of : (etype : Etype) (conf : List ℕ) (made b : Body) (m : SafeMsg) (
     → IsSafeDraft m m.cksum_type 12 draft → IsDraft etype conf b draft
 draft_of etype conf made b m draft size same is d = record {
   confounder = size;
-  draft = subst (λ (x : SafeMsg). IsSafeDraft x x.cksum_type 12 draft) (whole_of etype made b m same is) d;
+  made = subst (λ (x : SafeMsg). IsSafeDraft x x.cksum_type 12 draft) (whole_of etype made b m same is) d;
 }
 
 -- its fields are short
 short_at : (b : Bulk) (k : ℕ) (draft : SafeDraft) → k < length b.messages.now → IsDraftAt b k draft → HasShortFields draft
 short_at b k draft lt h =
     let m = message_at b.messages.now k lt in
-    let d = (h m.0 m.1).draft in
+    let d = (h m.0 m.1).made in
     record {
       within = d.within;
       short = short_fields (unsigned b.parts.etype (body_at b k m.0)) (checksum_number b.parts.etype) draft d;
@@ -74,7 +74,7 @@ pub put_at : (b : Bulk) (k : ℕ) (fields old new : List ℕ) (u : Unsummed) →
     → PutsCovered fields old new → u.start ≡ length old → u.end ≡ length new → PutsInput b k old new u
 put_at b k fields old new u lt h from puts first last =
     let at : (m : Unsealed) → slice_get b.messages.now k ≡ Some m → new ≡ old ++ safe_input (unsigned b.parts.etype (body_at b k m)) =
-    λ m found. puts (unsigned b.parts.etype (body_at b k m)) (sym (from ∙ (h m found).draft.fields)) in
+    λ m found. puts (unsigned b.parts.etype (body_at b k m)) (sym (from ∙ (h m found).made.fields)) in
     let one = message_at b.messages.now k lt in
     record {
       unsummed = h;
@@ -171,7 +171,7 @@ safe_frame etype key conf b u sum frame h same made =
     made ∙ ap (λ (x : List ℕ). u.draft.bytes.items ++ checksum_field (checksum_number etype) x) same in
     let spelt : Spells (messages.Safe (sealed_safe etype key b)) frame =
     subst (λ (s : List ℕ). Spells (messages.Safe (sealed_safe etype key b)) s) (sym whole)
-    (h.draft.spelt own (length-hmac96 (checksum_key key) (safe_input (unsigned etype b)))) in
+    (h.made.spelt own (length-hmac96 (checksum_key key) (safe_input (unsigned etype b)))) in
     record {
       etype = etype;
       known = refl;

@@ -106,7 +106,7 @@ pub record Enciphers (key : List ℕ) (plain : Plain) (written : List ℕ) : Typ
 -- A KRB-SAFE that has no checksum yet. The confounder goes nowhere.
 pub record IsDraft (etype : Etype) (conf : List ℕ) (b : Body) (draft : SafeDraft) : Type 0 where
   pub confounder : length conf ≡ confounder_size
-  pub draft : IsSafeDraft (unsigned etype b) (checksum_number etype) 12 draft
+  pub made : IsSafeDraft (unsigned etype b) (checksum_number etype) 12 draft
 
 -- It is that of the message with this index.
 abbrev pub IsDraftAt : Bulk → ℕ → SafeDraft → Type 0
