@@ -8,7 +8,7 @@
 
 /* Up to this size each allocation is refused alone, and then with all that follow it; beyond
  * ALL_REASONS, where a call takes long, none is but at the size of the longest text. */
-enum { THOROUGH = 300, LONGEST_TEXT = 1000000, MORE_THAN_ASKED = 64, TOGETHER = 8 };
+enum { THOROUGH = 300, LONGEST_TEXT = 1000000, MORE_THAN_ASKED = 64 };
 
 /* Ends at so many faults. */
 #ifndef MOST_TOLD
@@ -116,9 +116,6 @@ static int takes_several(const struct call *call)
 /* How many messages it seals. */
 static unsigned messages_of(const struct call *call) { return takes_several(call) ? given.messages : 1; }
 
-/* How many of them have what is hashed in one block. */
-static unsigned in_one_block(const struct call *call) { return messages_of(call) < TOGETHER ? 1 : TOGETHER; }
-
 /* The number rises by one for each message, of what the call counts. */
 static uint64_t numbers_after(const struct call *call, uint64_t before)
 {
@@ -186,8 +183,7 @@ static void asked_is_bounded(const struct call *call, uint32_t answer)
         is_so(asked.times == 0, "it asks the allocator for nothing");
     if (call->does == SEALS || call->does == OPENS) {
         is_so(asked.bytes <= messages_of(call) * (2 * size + MORE_THAN_ASKED), "it asks for at most twice the frame's bytes");
-        is_so(asked.largest <= in_one_block(call) * size + messages_of(call) * MORE_THAN_ASKED,
-              "no block is larger than the frame, or than eight that are sealed together");
+        is_so(asked.largest <= size + messages_of(call) * MORE_THAN_ASKED, "no block is larger than the frame");
     }
     if (call->does == SEALS && call->of == OF_DATA && given.mode == KRBRELAY_PRIV && answer == KRBRELAY_OK
         && !takes_several(call))

@@ -20,11 +20,12 @@ use Rattle.krb_seal.proofs.Frames.{short_fields}
 use Rattle.krb_seal.specs.Checksum.{PutsCovered}
 use Rattle.krb_seal.specs.Seals.{SealsBody, safe_checksum, sealed_safe, unsigned}
 use Rattle.krb_bulk.specs.declared.bulk.Bulk.{Bulk}
+use Rattle.krb_bulk.specs.declared.safe.FourUnsummed.{FourUnsummed}
 use Rattle.krb_bulk.specs.declared.safe.Unsummed.{Unsummed}
 use Rattle.krb_bulk.specs.declared.four.Four.{Four}
 use Rattle.krb_bulk.specs.declared.unsealed.Unsealed.{Unsealed}
 use Rattle.krb_bulk.specs.Four.{AreEach, AreFrom}
-use Rattle.krb_bulk.specs.BulkInside.{AreSums, Extends, HasInput, HasInputAt, HasShortFields, HasSum, IsDraft, IsDraftAt, IsSumAt, IsUnsummedAt, LiesIn, PutsInput, PutsInputs, SealsAt, body_at, input_of}
+use Rattle.krb_bulk.specs.BulkInside.{AreSums, Extends, HasInput, HasInputAt, HasInputs, HasShortFields, HasSum, IsDraft, IsDraftAt, IsSumAt, IsUnsummedAt, LiesIn, PutsInput, SealsAt, body_at, input_of}
 use Rattle.krb_bulk.proofs.BulkLemmas.{message_at}
 
 -- the message that carries what was made
@@ -99,47 +100,33 @@ kept_at b k u xs ys e h =
     λ m at. subst (λ (s : List ℕ). HasInput (unsigned b.parts.etype (body_at b k m)) s u) (sym e.1)
     (kept (unsigned b.parts.etype (body_at b k m)) xs e.0 u (h m at))
 
-pub four_kept : (b : Bulk) (from : ℕ) (four : Four Unsummed) (xs ys : List ℕ) → Extends xs ys → AreFrom (HasInputAt b xs) from four → AreFrom (HasInputAt b ys) from four
-four_kept b from four xs ys e h = record {
-  a = kept_at b from four.a xs ys e h.a;
-  b = kept_at b (from + 1) four.b xs ys e h.b;
-  c = kept_at b (from + 2) four.c xs ys e h.c;
-  d = kept_at b (from + 3) four.d xs ys e h.d;
-}
-
 -- four that were put one after another
-pub four_put : (b : Bulk) (from : ℕ) (four : Four Unsummed) (s t u v w : List ℕ) → PutsInput b from s t four.a → PutsInput b (from + 1) t u four.b
-    → PutsInput b (from + 2) u v four.c → PutsInput b (from + 3) v w four.d → PutsInputs b from s w four
-four_put b from four s t u v w pa pb pc pd =
+pub four_put : (b : Bulk) (from : ℕ) (four : FourUnsummed) (s t u v : List ℕ) → PutsInput b from s t four.messages.a → PutsInput b (from + 1) t u four.messages.b
+    → PutsInput b (from + 2) u v four.messages.c → PutsInput b (from + 3) v four.inputs.items four.messages.d → HasInputs b from four
+four_put b from four s t u v pa pb pc pd =
+    let w : List ℕ = four.inputs.items in
     let uw = extends_on u v w pc.kept pd.kept in
-    let tw = extends_on t u w pb.kept uw in
     record {
       unsummed = record { a = pa.unsummed; b = pb.unsummed; c = pc.unsummed; d = pd.unsummed };
       input = record {
-        a = kept_at b from four.a t w tw pa.input;
-        b = kept_at b (from + 1) four.b u w uw pb.input;
-        c = kept_at b (from + 2) four.c v w pd.kept pc.input;
+        a = kept_at b from four.messages.a t w (extends_on t u w pb.kept uw) pa.input;
+        b = kept_at b (from + 1) four.messages.b u w uw pb.input;
+        c = kept_at b (from + 2) four.messages.c v w pd.kept pc.input;
         d = pd.input;
       };
-      kept = extends_on s t w pa.kept tw;
     }
 
 lies_at : (b : Bulk) (inputs : List ℕ) (k : ℕ) (u : Unsummed) → k < length b.messages.now → HasInputAt b inputs k u → LiesIn inputs u
 lies_at b inputs k u lt h = let m = message_at b.messages.now k lt in (h m.0 m.1).lies
 
--- four lie in a buffer
-lie_from : (b : Bulk) (inputs : List ℕ) (from : ℕ) (four : Four Unsummed) → from + 4 ≤ length b.messages.now → AreFrom (HasInputAt b inputs) from four
-    → AreEach (LiesIn inputs) four
-lie_from b inputs from four le h = record {
-  a = lies_at b inputs from four.a (omega (arith, le)) h.a;
-  b = lies_at b inputs (from + 1) four.b (omega (arith, le)) h.b;
-  c = lies_at b inputs (from + 2) four.c (omega (arith, le)) h.c;
-  d = lies_at b inputs (from + 3) four.d (omega (arith, le)) h.d;
+-- four lie in their buffer
+pub lie_in : (b : Bulk) (from : ℕ) (four : FourUnsummed) → from + 4 ≤ length b.messages.now → HasInputs b from four → AreEach (LiesIn four.inputs.items) four.messages
+lie_in b from four le h = record {
+  a = lies_at b four.inputs.items from four.messages.a (omega (arith, le)) h.input.a;
+  b = lies_at b four.inputs.items (from + 1) four.messages.b (omega (arith, le)) h.input.b;
+  c = lies_at b four.inputs.items (from + 2) four.messages.c (omega (arith, le)) h.input.c;
+  d = lies_at b four.inputs.items (from + 3) four.messages.d (omega (arith, le)) h.input.d;
 }
-
-pub lie_in : (b : Bulk) (inputs held : List ℕ) (from : ℕ) (four : Four Unsummed) → held ≡ inputs → from + 4 ≤ length b.messages.now → AreFrom (HasInputAt b inputs) from four
-    → AreEach (LiesIn held) four
-lie_in b inputs held from four is le h = subst (λ (s : List ℕ). AreEach (LiesIn s) four) (sym is) (lie_from b inputs from four le h)
 
 -- ---- checksums
 
@@ -148,19 +135,14 @@ sum_at : (b : Bulk) (inputs : List ℕ) (k : ℕ) (u : Unsummed) (sum : List ℕ
 sum_at b inputs k u sum h is =
     λ m at. is ∙ ap (λ (x : List ℕ). hmac96 (checksum_key b.parts.keys.now.key) x) (h m at).input
 
-sums_from : (b : Bulk) (inputs : List ℕ) (from : ℕ) (four : Four Unsummed) (sums : Four (List ℕ)) → AreFrom (HasInputAt b inputs) from four
-    → AreSums b.parts.keys.now.key inputs four sums → AreFrom (IsSumAt b) from sums
-sums_from b inputs from four sums h are = record {
-  a = sum_at b inputs from four.a sums.a h.a are.a;
-  b = sum_at b inputs (from + 1) four.b sums.b h.b are.b;
-  c = sum_at b inputs (from + 2) four.c sums.c h.c are.c;
-  d = sum_at b inputs (from + 3) four.d sums.d h.d are.d;
+pub sums_in : (b : Bulk) (from : ℕ) (four : FourUnsummed) (sums : Four (List ℕ)) → HasInputs b from four
+    → AreSums b.parts.keys.now.key four.inputs.items four.messages sums → AreFrom (IsSumAt b) from sums
+sums_in b from four sums h are = record {
+  a = sum_at b four.inputs.items from four.messages.a sums.a h.input.a are.a;
+  b = sum_at b four.inputs.items (from + 1) four.messages.b sums.b h.input.b are.b;
+  c = sum_at b four.inputs.items (from + 2) four.messages.c sums.c h.input.c are.c;
+  d = sum_at b four.inputs.items (from + 3) four.messages.d sums.d h.input.d are.d;
 }
-
-pub sums_in : (b : Bulk) (inputs held : List ℕ) (from : ℕ) (four : Four Unsummed) (sums : Four (List ℕ)) → held ≡ inputs → AreFrom (HasInputAt b inputs) from four
-    → AreSums b.parts.keys.now.key held four sums → AreFrom (IsSumAt b) from sums
-sums_in b inputs held from four sums is h are =
-    sums_from b inputs from four sums h (subst (λ (s : List ℕ). AreSums b.parts.keys.now.key s four sums) is are)
 
 -- the frame of a KRB-SAFE
 safe_frame : (etype : Etype) (key conf : List ℕ) (b : Body) (u : Unsummed) (sum frame : List ℕ) → IsDraft etype conf b u.draft

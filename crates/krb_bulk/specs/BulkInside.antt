@@ -25,6 +25,7 @@ use Rattle.krb_seal.specs.Session.{HasShortAddresses}
 use Rattle.krb_bulk.specs.declared.bulk.Bulk.{Bulk}
 use Rattle.krb_bulk.specs.declared.four.Four.{Four}
 use Rattle.krb_bulk.specs.declared.private.Plain.{Plain}
+use Rattle.krb_bulk.specs.declared.safe.FourUnsummed.{FourUnsummed}
 use Rattle.krb_bulk.specs.declared.safe.Unsummed.{Unsummed}
 use Rattle.krb_bulk.specs.declared.unsealed.Unsealed.{Unsealed}
 use Rattle.krb_bulk.specs.Four.{AreBoth, AreFrom}
@@ -148,12 +149,10 @@ pub record PutsInput (b : Bulk) (k : ℕ) (old new : List ℕ) (u : Unsummed) : 
   pub input : HasInputAt b new k u
   pub kept : Extends old new
 
--- Those of four messages from this index on were.
-pub record PutsInputs (b : Bulk) (from : ℕ) (old new : List ℕ) (four : Four Unsummed)
-    : Type 0 where
-  pub unsummed : AreFrom (IsUnsummedAt b) from four
-  pub input : AreFrom (HasInputAt b new) from four
-  pub kept : Extends old new
+-- They are those of the messages from this index on, with what is under their checksums.
+pub record HasInputs (b : Bulk) (from : ℕ) (four : FourUnsummed) : Type 0 where
+  pub unsummed : AreFrom (IsUnsummedAt b) from four.messages
+  pub input : AreFrom (HasInputAt b four.inputs.items) from four.messages
 
 -- The bytes are this KRB-SAFE with this checksum.
 abbrev pub HasSum : Etype → Unsummed → List ℕ → List ℕ → Type 0

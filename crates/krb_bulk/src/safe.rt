@@ -5,7 +5,7 @@ ghost use Rattle.krb_etype.specs.Keys.{checksum_key};
 ghost use Rattle.krb_keys.specs.BatchMac.{HoldsBatchKey};
 ghost use Rattle.krb_seal.specs.declared.session.Mode.TheVariants.{Safe};
 ghost use Rattle.krb_bulk.specs.Four.{AreEach, AreFrom};
-ghost use Rattle.krb_bulk.specs.BulkInside.{AreSums, HasShortFields, HasSum, IsDraftAt, IsReady, IsSumAt, IsUnsummedAt, LiesIn, PutsInput, PutsInputs, SealsAt, input_of};
+ghost use Rattle.krb_bulk.specs.BulkInside.{AreSums, HasInputs, HasShortFields, HasSum, IsDraftAt, IsReady, IsSumAt, IsUnsummedAt, LiesIn, PutsInput, SealsAt, input_of};
 ghost use Rattle.krb_bulk.specs.declared.bulk.Bulk.{Bulk};
 
 use crate::bulk::Bulk;
@@ -34,7 +34,7 @@ fn input_sizes(drafts: &Four<SafeDraft>) -> usize {
 }
 
 /// A KRB-SAFE that has no checksum yet. The bytes under its checksum (RFC 4120 section 5.6.1) lie in
-/// a buffer, which eight messages share.
+/// a buffer, which four messages share.
 #[derive(Drop)]
 pub struct Unsummed {
     draft: SafeDraft,
@@ -70,48 +70,55 @@ impl Unsummed {
     }
 }
 
-/// Those of four drafts. The bytes under their checksums are appended to a buffer.
-fn four_unsummed(
-    drafts: Four<SafeDraft>,
-    inputs: &mut Vec<u8>,
-) -> Result<Four<Unsummed>, AllocError>
-    requires { AreEach HasShortFields drafts }
-    ensures { IfOk result (λ four. (b : Bulk) (from : ℕ) → from + 4 ≤ length b.messages.now
-        → AreFrom (IsDraftAt b) from drafts
-        → PutsInputs b from inputs.old.items inputs.new.items four) }
-{
-    let Four { a, b, c, d } = drafts;
-    Ok(Four {
-        a: Unsummed::new(a, inputs)?,
-        b: Unsummed::new(b, inputs)?,
-        c: Unsummed::new(c, inputs)?,
-        d: Unsummed::new(d, inputs)?,
-    })
+/// Four KRB-SAFE that have no checksums yet, and the buffer with the bytes under these.
+#[derive(Drop)]
+pub struct FourUnsummed {
+    messages: Four<Unsummed>,
+    inputs: Vec<u8>,
+}
+
+impl FourUnsummed {
+    /// Those of four drafts.
+    fn new(alloc: Global, drafts: Four<SafeDraft>) -> Result<FourUnsummed, AllocError>
+        requires { AreEach HasShortFields drafts }
+        ensures { IfOk result (λ four. (b : Bulk) (from : ℕ) → from + 4 ≤ length b.messages.now
+            → AreFrom (IsDraftAt b) from drafts → HasInputs b from four) }
+    {
+        let mut inputs = Vec::with_capacity(alloc, input_sizes(&drafts))?;
+        let Four { a, b, c, d } = drafts;
+        let messages = Four {
+            a: Unsummed::new(a, &mut inputs)?,
+            b: Unsummed::new(b, &mut inputs)?,
+            c: Unsummed::new(c, &mut inputs)?,
+            d: Unsummed::new(d, &mut inputs)?,
+        };
+        Ok(FourUnsummed { messages, inputs })
+    }
 }
 
 /// The checksums of eight messages, side by side.
 fn eight_sums(
     mac: &BatchMac,
-    inputs: &[u8],
-    first: &Four<Unsummed>,
-    second: &Four<Unsummed>,
+    first: &FourUnsummed,
+    second: &FourUnsummed,
 ) -> (Four<[u8; CODE_SIZE]>, Four<[u8; CODE_SIZE]>)
-    requires first { AreEach (LiesIn inputs.now) first.now }
-    requires second { AreEach (LiesIn inputs.now) second.now }
+    requires first { AreEach (LiesIn first.now.inputs.items) first.now.messages }
+    requires second { AreEach (LiesIn second.now.inputs.items) second.now.messages }
     ensures first { (key : List ℕ) → HoldsBatchKey mac.now (checksum_key key)
-        → AreSums key inputs.now first.now result.0 }
+        → AreSums key first.now.inputs.items first.now.messages result.0 }
     ensures second { (key : List ℕ) → HoldsBatchKey mac.now (checksum_key key)
-        → AreSums key inputs.now second.now result.1 }
+        → AreSums key second.now.inputs.items second.now.messages result.1 }
 {
+    let (one, two) = (first.inputs.as_slice(), second.inputs.as_slice());
     let sums = mac.hmac96(&[
-        first.a.input(inputs),
-        first.b.input(inputs),
-        first.c.input(inputs),
-        first.d.input(inputs),
-        second.a.input(inputs),
-        second.b.input(inputs),
-        second.c.input(inputs),
-        second.d.input(inputs),
+        first.messages.a.input(one),
+        first.messages.b.input(one),
+        first.messages.c.input(one),
+        first.messages.d.input(one),
+        second.messages.a.input(two),
+        second.messages.b.input(two),
+        second.messages.c.input(two),
+        second.messages.d.input(two),
     ]);
     eight_codes(&sums)
 }
@@ -140,6 +147,16 @@ impl Bulk<'_, '_, '_> {
             c: self.draft(alloc, from + 2)?,
             d: self.draft(alloc, from + 3)?,
         })
+    }
+
+    /// The same with what is under their checksums.
+    fn four_unsummed(&self, alloc: Global, from: usize) -> Result<FourUnsummed, AllocError>
+        requires ready { IsReady self.now }
+        requires from { from + 4 ≤ length self.now.messages.now }
+        ensures { IfOk result (HasInputs self.now from) }
+    {
+        let drafts = self.four_drafts(alloc, from)?;
+        FourUnsummed::new(alloc, drafts)
     }
 
     /// The frame of a message with this checksum.
@@ -189,15 +206,11 @@ impl Bulk<'_, '_, '_> {
         ensures second { IfOk result (λ r.
             AreFrom (λ k v. SealsAt self.now k v.items) (from + 4) r.1) }
     {
-        let first = self.four_drafts(alloc, from)?;
-        let second = self.four_drafts(alloc, from + 4)?;
-        let room = input_sizes(&first).saturating_add(input_sizes(&second));
-        let mut inputs = Vec::with_capacity(alloc, room)?;
-        let first = four_unsummed(first, &mut inputs)?;
-        let second = four_unsummed(second, &mut inputs)?;
-        let (sums, others) = eight_sums(mac, &inputs, &first, &second);
-        let first = self.four_summed(from, first, &sums)?;
-        let second = self.four_summed(from + 4, second, &others)?;
+        let first = self.four_unsummed(alloc, from)?;
+        let second = self.four_unsummed(alloc, from + 4)?;
+        let (sums, others) = eight_sums(mac, &first, &second);
+        let first = self.four_summed(from, first.messages, &sums)?;
+        let second = self.four_summed(from + 4, second.messages, &others)?;
         Ok((first, second))
     }
 }
