@@ -34,19 +34,12 @@ def best_of(crate):
     return program if building.is_built(crate, program) and own() else building.program_of(crate)
 
 
-def words_of_kit(crate):
-    """The words for the libraries of the kit that a crate names."""
-    for it in building.table()[crate][1]:
-        if it not in building.table():
-            yield from ("--extern", f"{it}={over_gate.kit()}/rlibs/{it}.rlib")
-
-
 def build(crate, level):
     """Proves and links the program of a crate for a level. It raises NotProved where it isn't."""
     program, tools = program_of(crate), kit_compiler.toolchain()
     built_from = building.digest_of(crate)
     proves = [*over_gate.words_for_program(crate, min(proving.cores(), over_gate.MOST_JOBS), tools, f"{program}.o"),
-              *words_of_kit(crate), "--cpu", level, *over_gate.taking_checked()]
+              *over_gate.words_of_kit(crate), "--cpu", level, *over_gate.taking_checked()]
     said = []
     for words in (proves, over_gate.words_to_link(program, tools)):
         done = subprocess.run(words, check=False, cwd=building.folder_of(crate), stdin=subprocess.DEVNULL,

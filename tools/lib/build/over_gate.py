@@ -61,14 +61,17 @@ def words_over(name, source, crates, jobs):
     return words
 
 
+def words_of_kit(crate):
+    """The words for the libraries of the kit that a crate names."""
+    for it in building.table()[crate][1]:
+        if it not in building.table():
+            yield from ("--extern", f"{it}={kit()}/rlibs/{it}.rlib")
+
+
 def words_to_check(crate, jobs):
     """The words that prove a crate alone, over the libraries that are built, with those of the kit that it names."""
     source = "src/main.rt" if building.has_program(crate) else "src/lib.rt"
-    deps = building.table()[crate][1]
-    words = words_over(crate, source, building.below()[crate], jobs)
-    for it in deps:
-        if it not in building.table():
-            words += ["--extern", f"{it}={kit()}/rlibs/{it}.rlib"]
+    words = [*words_over(crate, source, building.below()[crate], jobs), *words_of_kit(crate)]
     return [words[0], "check", *words[2:]]
 
 
