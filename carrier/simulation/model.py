@@ -20,6 +20,7 @@ WINDOW, WINDOW_MOST, SERVICE, UNDER_WAY = 16, 256, 16, 2_048
 AGAIN, AGAIN_MOST = 2_000, 64_000
 PROBE, PROBE_MOST = 5_000, 960_000
 ASK, ASK_MOST = 4_000, 64_000
+ROOM = 2_000
 RECEIPT = 200
 NEVER = 2**64 - 1
 TAG = 12                # bytes of a frame that a digest is of
@@ -145,6 +146,7 @@ class Sending:
         elif own != receipt.history and "digests aren't compared" not in self.plants:
             self.ended = Ended.FORKED
         if self.ended:
+            self.sent = self.carried
             return Heard.ENDED
         self.settle(receipt.number, now)
         return Heard.DELIVERED
@@ -184,7 +186,7 @@ class Sending:
             opening = not self.is_answered or self.probe.length >= 4 * PROBE
             self.probe.grow(PROBE_MOST, now)
             return Probe(self.carried - 1, opening)
-        return Wake(self.wake_time(count))
+        return Wake(self.wake_time(count, room, now))
 
     def batch(self, room: int) -> int:
         recovery = self.done + self.window - self.sent if self.done < self.recovers else SERVICE
@@ -197,8 +199,10 @@ class Sending:
         self.sent += count
         return Publish(self.sent - count, count)
 
-    def wake_time(self, count: int) -> int:
+    def wake_time(self, count: int, room: int, now: int) -> int:
         ends = [NEVER]
+        if room == 0:
+            ends.append(Pause(now, ROOM).end())
         if count > 0 and self.ask is not None:
             ends.append(self.ask.end())
         if self.carried < self.sent:

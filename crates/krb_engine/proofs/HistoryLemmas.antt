@@ -95,8 +95,8 @@ module _ (sealer : SealerState) (records : List Record) (session : ℕ) (shard :
   has_found : (old : SendingState) (own : List ℕ) (receipt : Receipt) (now : ℕ) (finding : Finding) → Finds old.done old.progress.next own receipt finding → Has old → Has (found old receipt.number now finding)
   has_found old own receipt now Repeat finds has = has
   has_found old own receipt now Delivered finds has = has_settled old receipt.number now finds.0 has
-  has_found old own receipt now Older finds has = same old (found old receipt.number now Older) refl (omega arith) has
-  has_found old own receipt now Forked finds has = same old (found old receipt.number now Forked) refl (omega arith) has
+  has_found old own receipt now Older finds has = more old (found old receipt.number now Older) Rewind refl (omega arith) tt has
+  has_found old own receipt now Forked finds has = more old (found old receipt.number now Forked) Rewind refl (omega arith) tt has
 
   has_heeded : (old : SendingState) (number : ℕ) (it : Asks) (now : ℕ) → Has old → Has (heeded old number it now)
   has_heeded old number it now has = by_test (is_asked old number it now)

@@ -1,19 +1,22 @@
 -- A session's end at a receiver goes with what is stored.
-use Rattle.std.proofs.Common.{◌≡◌, ℕ, suc, ◌+◌, ◌-◌, ◌<◌, ◌≤◌, ◌==◌, nat_lt, if◌then◌else◌, Bool, true, false, Option, Some, None, List, [], ◌∷◌, ◌++◌, length, take, refl, sym, ap, subst, ◌∙◌, ◌↔◌, inl, inr, arith, length-append, append_assoc, append-nil}
+use Rattle.std.proofs.Common.{◌≡◌, ℕ, suc, ◌+◌, ◌-◌, ◌<◌, ◌≤◌, ◌==◌, nat_lt, if◌then◌else◌, Bool, true, false, Option, Some, None, List, [], ◌∷◌, ◌++◌, length, take, refl, sym, ap, subst, ◌∙◌, ◌↔◌, ◌⊎◌, inl, inr, arith, length-append, append_assoc, append-nil}
+use Rattle.std.specs.Prelude.{is_some}
 use Rattle.std.proofs.lemmas.List.{take_all}
 use Rattle.std.proofs.lemmas.Bool.{true≢false, lt-ltb, le-ltb}
 use Rattle.krb_history.specs.History.{no_history, with_frames, with_frame as with_tag}
 use Rattle.krb_copies.specs.declared.receipt.Receipt.{Receipt}
 use Rattle.krb_copies.specs.Receipt.{below, history_of, history_below, IsTrue}
 use Rattle.krb_engine.specs.declared.sending.Asks.{Asks}
+use Rattle.krb_engine.specs.declared.sending.Asks.TheVariants as asks
 use Rattle.krb_engine.specs.declared.receiving.Outcome.{Outcome}
 use Rattle.krb_engine.specs.declared.receiving.Outcome.TheVariants.{Accepted, Repeat, Early, Unknown, Unsettled}
 use Rattle.krb_engine.specs.declared.receiving.Row.{Row}
 use Rattle.krb_engine.specs.declared.receiving.Seen.{Seen}
 use Rattle.krb_engine.specs.declared.receiving.Receiving.{Receiving}
-use Rattle.krb_engine.specs.Receiving.{by_number, outcome, after_frame, drafted_after, took, stored, dropped, answered}
+use Rattle.krb_engine.specs.Receiving.{by_number, outcome, after_frame, drafted_after, early_owes, owes, took, stored, dropped, answered}
+use Rattle.krb_engine.specs.Sending.{is_over}
 use Rattle.krb_engine.specs.Calls.{AnswersReceipt}
-use Rattle.krb_engine.specs.ReceivingLaws.{IsRowOf, Store, IsEndAt, Call, Take, Commit, Drop, Ask, with_frame, after_call, AnswersCall, LeadsReceiving, GoesWithTheStore, ReceiptsAreTrue, AcceptsInTurn, RefusesByNumber}
+use Rattle.krb_engine.specs.ReceivingLaws.{IsRowOf, Store, IsEndAt, Call, Take, Commit, Drop, Ask, with_frame, after_call, AnswersCall, LeadsReceiving, GoesWithTheStore, ReceiptsAreTrue, AcceptsInTurn, RefusesByNumber, OwesReceipt, ReceiptsAreOwed, ReceiptsLeave, ClosesAreStored}
 
 -- ---- one frame more
 
@@ -142,3 +145,41 @@ refuses_by_number row seen none goes_on =
       λ it. opens (Some demanded) it ∙ unsettled_is demanded,
       λ it. opens None it,
     )
+
+-- ---- receipts, and the close
+
+repeat_owes : (owed : Option Asks) → is_some (owes owed Repeat) ≡ true
+repeat_owes owed = refl
+
+early_asks : (owed : Option Asks) → (early_owes owed ≡ Some asks.Missing) ⊎ (early_owes owed ≡ Some asks.Refused)
+early_asks None = inl refl
+early_asks (Some asks.Nothing) = inl refl
+early_asks (Some asks.Missing) = inl refl
+early_asks (Some asks.Refused) = inr refl
+
+owed_by : (owed : Option Asks) (it : Outcome) → OwesReceipt owed it (owes owed it)
+owed_by owed Accepted = refl
+owed_by owed Repeat = repeat_owes owed
+owed_by owed Early = early_asks owed
+owed_by owed Unknown = refl
+owed_by owed Unsettled = refl
+
+pub receipts_are_owed : ReceiptsAreOwed
+receipts_are_owed old frame seen = owed_by old.owed (outcome old.drafted seen)
+
+pub receipts_leave : ReceiptsLeave
+receipts_leave old now it None new owed over answers = absurd (by_rest answers.0)
+  where
+    by_rest : (false ≡ true) ⊎ (is_over old.paid now ≡ false) ⊎ (old.owed ≡ None) → ⊥
+    by_rest (inl running) = true≢false (sym running)
+    by_rest (inr (inl early)) = true≢false (sym over ∙ early)
+    by_rest (inr (inr none)) = (let e : Some it ≡ None = sym owed ∙ none in cc)
+receipts_leave old now it (Some (receipt, what)) new owed over answers =
+    let same : it ≡ what = (let e : Some it ≡ Some what = sym owed ∙ answers.2 in cc) in
+    ap (λ r. Some (r, what)) answers.3 ∙ ap (λ w. Some (old.drafted.demanded, w)) (sym same)
+
+pub closes_are_stored : ClosesAreStored
+closes_are_stored old frame seen later accepted is =
+    let row = (took old frame seen).drafted in
+    let closed : row.closed ≡ true = ap (λ o. (drafted_after old.drafted frame seen o).closed) accepted ∙ is in
+    (closed, ap (λ c. if c then Repeat else (if later.accepted then Accepted else by_number row.demanded.number later.opened)) closed)

@@ -4,33 +4,34 @@ use Rattle.std.specs.Prelude.{is_some, count_by}
 use Rattle.std.proofs.lemmas.Bool.{cases_lt, cases_eq, cases_Bool, and_parts, or_parts, ltb-true, ltb-false, leb-true, lt-ltb, le-ltb, le-leb, lt-leb, eq-eqb, eqb-true, true≢false, false≢true}
 use Rattle.std.proofs.lemmas.List.Sums.{sum_by-cons}
 use Rattle.krb_queue.specs.declared.pause.Pause.{Pause}
-use Rattle.krb_queue.specs.Pause.{longer}
+use Rattle.krb_queue.specs.Pause.{begun, longer}
 use Rattle.krb_queue.specs.Laws.{pauses}
 use Rattle.krb_queue.proofs.PauseLemmas.{pauses_from, undoubled}
 use Rattle.krb_engine.specs.declared.sending.Command.{Command}
 use Rattle.krb_engine.specs.declared.sending.Command.TheVariants.{Publish, Probe, Wake, Idle}
-use Rattle.krb_engine.specs.Limits.{window_most, service_most, again_most, probe_most}
+use Rattle.krb_engine.specs.Limits.{window_most, service_most, again_most, probe_most, room_pause}
 use Rattle.krb_engine.specs.SendingState.{SendingState, IsEnd}
-use Rattle.krb_engine.specs.Sending.{is_over, never, end_of, may_ask, is_lost, lost, looked, is_settled, recovery_room, batch, is_free, published, is_unanswered, probed, ask_end, held_end, again_end, probe_end, wake_time}
+use Rattle.krb_engine.specs.Sending.{is_over, never, end_of, may_ask, is_lost, lost, looked, is_settled, recovery_room, batch, is_free, published, is_unanswered, probed, ask_end, held_end, again_end, probe_end, room_end, wake_time}
 use Rattle.krb_engine.specs.Calls.{Serves, Rests}
-use Rattle.krb_engine.specs.Laws.{EndsAt, Again, Unanswered, Asked, HasSomethingToDo, NothingStandsStill, EachServiceIsSmall, Service, LeadsServed, is_probe, leaves, copies, CopiesAreFew, RepeatsAreRare, ProbesAreRare}
+use Rattle.krb_engine.proofs.LivenessLemmas.{wakes_are_to_come}
+use Rattle.krb_engine.specs.Laws.{EndsAt, Again, Unanswered, Asked, Full, HasSomethingToDo, NothingStandsStill, EachServiceIsSmall, Service, LeadsServed, is_probe, leaves, copies, CopiesAreFew, RepeatsAreRare, ProbesAreRare}
 
 -- ---- the first of the times at which a pause is over
 
-module _ (state : SendingState) where
+module _ (state : SendingState) (room now : ℕ) where
   -- a time at which one is over, or none
   abbrev Time : ℕ → Type 0
-  Time at = EndsAt state at ⊎ (at ≡ never)
+  Time at = EndsAt state room now at ⊎ (at ≡ never)
 
-  first_of : (x y : ℕ) → EndsAt state x → x ≤ never → Time y → EndsAt state (min x y)
-  first_of x y ends le (inr is) = subst (EndsAt state) (omega (arith, le, is)) ends
+  first_of : (x y : ℕ) → EndsAt state room now x → x ≤ never → Time y → EndsAt state room now (min x y)
+  first_of x y ends le (inr is) = subst (EndsAt state room now) (omega (arith, le, is)) ends
   first_of x y ends le (inl other) = elim (cases_lt x y) [
-    | inl lt ↦ subst (EndsAt state) (omega (arith, lt)) ends
-    | inr ge ↦ subst (EndsAt state) (omega (arith, ge)) other
+    | inl lt ↦ subst (EndsAt state room now) (omega (arith, lt)) ends
+    | inr ge ↦ subst (EndsAt state room now) (omega (arith, ge)) other
   ]
 
-  second_of : (x y : ℕ) → Time x → EndsAt state y → y ≤ never → EndsAt state (min x y)
-  second_of x y time ends le = subst (EndsAt state) (let turned : min y x ≡ min x y = omega arith in turned) (first_of y x ends le time)
+  second_of : (x y : ℕ) → Time x → EndsAt state room now y → y ≤ never → EndsAt state room now (min x y)
+  second_of x y time ends le = subst (EndsAt state room now) (let turned : min y x ≡ min x y = omega arith in turned) (first_of y x ends le time)
 
   one_of : (x y : ℕ) → x ≤ never → y ≤ never → Time x → Time y → Time (min x y)
   one_of x y lx ly (inl ends) time = inl (first_of x y ends lx time)
@@ -47,6 +48,20 @@ module _ (state : SendingState) where
   ask_le : (ask : Option Pause) → ask_end ask ≤ never
   ask_le None = omega arith
   ask_le (Some pause) = end_le pause
+
+  room_time : Time (room_end room now)
+  room_time = by_test (room == 0) refl
+    where
+      by_test : (b : Bool) → (room == 0) ≡ b → Time (if b then end_of (begun room_pause now) else never)
+      by_test true is = inl (Full (eqb-true room 0 is) refl)
+      by_test false is = inr refl
+
+  room_le : room_end room now ≤ never
+  room_le = by_test (room == 0)
+    where
+      by_test : (b : Bool) → (if b then end_of (begun room_pause now) else never) ≤ never
+      by_test true = omega arith
+      by_test false = omega arith
 
   held_time : (count : ℕ) → Time (held_end state count)
   held_time count = by_test (nat_lt 0 count)
@@ -92,25 +107,25 @@ module _ (state : SendingState) where
 
   -- ---- one of them is there
 
-  unanswered_ends : state.done < state.progress.carried → EndsAt state (probe_end state)
+  unanswered_ends : state.done < state.progress.carried → EndsAt state room now (probe_end state)
   unanswered_ends lt = Unanswered (ap (λ b. if b then end_of state.probe else never) (lt-ltb state.done state.progress.carried lt))
 
-  again_ends : state.progress.carried < state.progress.sent → EndsAt state (again_end state)
+  again_ends : state.progress.carried < state.progress.sent → EndsAt state room now (again_end state)
   again_ends lt = Again (ap (λ b. if b then end_of state.again else never) (lt-ltb state.progress.carried state.progress.sent lt))
 
   -- a refusal that holds it back has its pause
-  held_ends : (count now : ℕ) → 0 < count → is_free state now ≡ false → EndsAt state (held_end state count)
-  held_ends count now some held =
-      subst (EndsAt state) (sym (ap (λ b. if b then ask_end state.ask else never) (lt-ltb 0 count some))) (by_ask state.ask refl (or_parts (not state.is_held) (may_ask state.ask now) held).1)
+  held_ends : (count : ℕ) → 0 < count → is_free state now ≡ false → EndsAt state room now (held_end state count)
+  held_ends count some held =
+      subst (EndsAt state room now) (sym (ap (λ b. if b then ask_end state.ask else never) (lt-ltb 0 count some))) (by_ask state.ask refl (or_parts (not state.is_held) (may_ask state.ask now) held).1)
     where
-      by_ask : (ask : Option Pause) → state.ask ≡ ask → may_ask ask now ≡ false → EndsAt state (ask_end ask)
+      by_ask : (ask : Option Pause) → state.ask ≡ ask → may_ask ask now ≡ false → EndsAt state room now (ask_end ask)
       by_ask None is none = absurd (true≢false none)
       by_ask (Some pause) is none = Asked pause is refl
 
   -- if nothing is under way or unanswered, something may leave
-  has_batch : (room : ℕ) → 0 < room → 0 < state.window → state.progress.sent ≤ state.progress.carried → state.progress.carried ≤ state.done → state.progress.sent < state.progress.next → state.done ≤ state.progress.carried
+  has_batch : 0 < room → 0 < state.window → state.progress.sent ≤ state.progress.carried → state.progress.carried ≤ state.done → state.progress.sent < state.progress.next → state.done ≤ state.progress.carried
       → state.progress.carried ≤ state.progress.sent → 0 < batch state room
-  has_batch room some window a b c d e = omega (arith, by_test (nat_lt state.done state.recovers), some, window, a, b, c, d, e)
+  has_batch some window a b c d e = omega (arith, by_test (nat_lt state.done state.recovers), some, window, a, b, c, d, e)
     where
       by_test : (t : Bool) → 0 < (if t then state.done + state.window - state.progress.sent else service_most)
       by_test true = omega (arith, window, a, b, d, e)
@@ -121,8 +136,21 @@ module _ (state : SendingState) where
       let parts = or_parts (is_some state.ended) (state.done == state.progress.next) is in
       true≢false (sym (eq-eqb state.done state.progress.next same) ∙ parts.1)
 
-  wakes : (room now : ℕ) → IsEnd state → is_settled state ≡ false → 0 < room → Rests state room now → EndsAt state (wake_time state (batch state room))
-  wakes room now is unsettled some rests =
+  full_ends : room ≡ 0 → EndsAt state room now (room_end room now)
+  full_ends none = Full none (ap (λ b. if b then end_of (begun room_pause now) else never) (eq-eqb room 0 none))
+
+  rest_le : (count : ℕ) → min (held_end state count) (min (again_end state) (probe_end state)) ≤ never
+  rest_le count = omega (arith, held_le count)
+
+  rest_time : (count : ℕ) → Time (min (held_end state count) (min (again_end state) (probe_end state)))
+  rest_time count =
+      one_of (held_end state count) (min (again_end state) (probe_end state)) (held_le count) (omega (arith, again_le)) (held_time count)
+      (one_of (again_end state) (probe_end state) again_le probe_le again_time probe_time)
+
+  -- with room one of its own pauses is over then
+  rest_ends : IsEnd state → is_settled state ≡ false → 0 < room → Rests state room now
+      → EndsAt state room now (min (held_end state (batch state room)) (min (again_end state) (probe_end state)))
+  rest_ends is unsettled some rests =
       let count = batch state room in
       elim (cases_lt state.done state.progress.carried) [
         | inl due ↦
@@ -135,8 +163,8 @@ module _ (state : SendingState) where
           | inr none ↦
               let differ = not_done unsettled in
               let more : state.progress.sent < state.progress.next = omega (arith, all, none, is.done, is.carried, is.sent, differ) in
-              let positive : 0 < count = has_batch room some is.window none all more is.done is.carried in
-              first_of (held_end state count) (min (again_end state) (probe_end state)) (held_ends count now positive (held rests positive)) (held_le count)
+              let positive : 0 < count = has_batch some is.window none all more is.done is.carried in
+              first_of (held_end state count) (min (again_end state) (probe_end state)) (held_ends count positive (held rests positive)) (held_le count)
               (one_of (again_end state) (probe_end state) again_le probe_le again_time probe_time)
         ]
       ]
@@ -144,6 +172,15 @@ module _ (state : SendingState) where
       held : Rests state room now → 0 < batch state room → is_free state now ≡ false
       held (inl none) some = absurd (omega (arith, none, some))
       held (inr is) some = is
+
+  wakes : IsEnd state → is_settled state ≡ false → Rests state room now → EndsAt state room now (wake_time state (batch state room) room now)
+  wakes is unsettled rests =
+      let count = batch state room in
+      let rest = min (held_end state count) (min (again_end state) (probe_end state)) in
+      elim (cases_lt 0 room) [
+        | inl some ↦ second_of (room_end room now) rest room_time (rest_ends is unsettled some rests) (rest_le count)
+        | inr none ↦ first_of (room_end room now) rest (full_ends (omega (arith, none))) room_le (rest_time count)
+      ]
 
 -- ---- what wasn't confirmed in time changes neither
 
@@ -173,18 +210,19 @@ looked_numbers old now = by_test (is_lost old now)
     by_test true = (refl, refl)
     by_test false = (refl, refl)
 
-has_something : (state : SendingState) (room now : ℕ) (command : Command) (new : SendingState) → IsEnd state → is_settled state ≡ false → 0 < room → Serves state room now command new
-    → HasSomethingToDo state command
-has_something state room now (Publish from count) new is unsettled some serves = (omega (arith, serves.4, is.done, is.carried), serves.1)
-has_something state room now (Probe number opening) new is unsettled some serves =
+has_something : (state : SendingState) (room now : ℕ) (command : Command) (new : SendingState) → IsEnd state → is_settled state ≡ false → ((at : ℕ) → Serves state room now (Wake at) new → now < at)
+    → Serves state room now command new → HasSomethingToDo state room now command
+has_something state room now (Publish from count) new is unsettled to_come serves = (omega (arith, serves.4, is.done, is.carried), serves.1)
+has_something state room now (Probe number opening) new is unsettled to_come serves =
     let due = and_parts (nat_lt state.done state.progress.carried) (is_over state.probe now) serves.2 in
     omega (arith, ltb-true state.done state.progress.carried due.0, (serves.3).0)
-has_something state room now (Wake at) new is unsettled some serves = subst (EndsAt state) (sym serves.3) (wakes state room now is unsettled some serves.1)
-has_something state room now Idle new is unsettled some serves = true≢false (sym serves.0 ∙ unsettled)
+has_something state room now (Wake at) new is unsettled to_come serves =
+    (subst (EndsAt state room now) (sym serves.3) (wakes state room now is unsettled serves.1), to_come at serves)
+has_something state room now Idle new is unsettled to_come serves = true≢false (sym serves.0 ∙ unsettled)
 
 pub nothing_stands_still : NothingStandsStill
-nothing_stands_still old room now command new is unsettled some serves =
-    has_something (looked old now) room now command new (looked_end old now is) (looked_settled old now ∙ unsettled) some serves
+nothing_stands_still old room now command new is unsettled early serves =
+    has_something (looked old now) room now command new (looked_end old now is) (looked_settled old now ∙ unsettled) (λ at wakes. wakes_are_to_come old room now at new early wakes) serves
 
 pub each_service_is_small : EachServiceIsSmall
 each_service_is_small old room now from count new is serves =

@@ -6,8 +6,10 @@ use Rattle.krb_engine.specs.Limits.{under_way_most}
 use Rattle.krb_engine.specs.declared.shards.Flow.{Flow}
 use Rattle.krb_engine.specs.declared.shards.Spot.{Spot}
 use Rattle.krb_engine.specs.declared.shards.Reading.{Reading}
-use Rattle.krb_engine.specs.Shards.{room_with, taken}
-use Rattle.krb_engine.specs.ShardLaws.{UnderWayIsTheSum, FewAreUnderWay, NothingIsSkipped, LeadsOn, OneTransactionAfterAnother}
+use Rattle.krb_engine.specs.declared.shards.Read.TheVariants.{Nothing, Elsewhere, Take}
+use Rattle.std.proofs.lemmas.Bool.{true≢false}
+use Rattle.krb_engine.specs.Shards.{room_with, room_of, IsWhole, taken}
+use Rattle.krb_engine.specs.ShardLaws.{UnderWayIsTheSum, FewAreUnderWay, NothingIsSkipped, LeadsOn, OneTransactionAfterAnother, RoomIsLeft, OtherListsBegin}
 
 -- ---- under way
 
@@ -67,3 +69,23 @@ one_after_another old (count ∷ counts) new same leads =
       rest.1 ∙ list,
       omega (arith, rest.2, ap (λ (s : Reading). s.read.offset) reads.3, ap (λ (s : Spot). s.offset) same, sum-cons count counts),
     )
+
+pub room_is_left : RoomIsLeft
+room_is_left flow list is few =
+    let room : room_of flow ≡ under_way_most - flow.under_way = ap (λ l. room_with l flow.under_way) is in
+    omega (arith, room, few)
+
+pub other_lists_begin : OtherListsBegin
+other_lists_begin old list last count Take new other closed reads = absurd (other (reads.1).0)
+other_lists_begin old list last count Nothing new other closed reads = absurd (by_rest reads.0)
+  where
+    by_rest : (old.is_open ≡ true) ⊎ (IsWhole old list last × (count ≡ 0)) → ⊥
+    by_rest (inl running) = true≢false (sym running ∙ closed)
+    by_rest (inr whole) = other (whole.0).0
+other_lists_begin old list last count Elsewhere new other closed reads = by_list reads.1
+  where
+    by_list : ((list ≢ old.read.list) × (new ≡ record { stored = old.stored; read = record { list = list; offset = 0 }; is_open = false }))
+        ⊎ ((list ≡ old.read.list) × (last < old.read.offset) × (new ≡ record { stored = old.stored; read = record old.read { offset = last }; is_open = false }))
+        → (new.read.list ≡ list) × (new.read.offset ≡ 0)
+    by_list (inl begins) = (ap (λ (s : Reading). s.read.list) begins.1, ap (λ (s : Reading). s.read.offset) begins.1)
+    by_list (inr cut) = absurd (other cut.0)

@@ -3,7 +3,7 @@ use Rattle.std.proofs.Common.{◌≡◌, ℕ, ◌+◌, ◌≤◌, ◌==◌, ◌&
 use Rattle.std.specs.Prelude.{All}
 use Rattle.std.specs.List.{flat_map, list_any}
 use Rattle.std.specs.Str.{bytes_eq}
-use Rattle.std.proofs.lemmas.Bool.{and_parts, eqb-true, true≢false}
+use Rattle.std.proofs.lemmas.Bool.{and_parts, eq-eqb, eqb-true, true≢false}
 use Rattle.krb_history.specs.Laws.{OneHistory}
 use Rattle.std.proofs.lemmas.List.Elements.{All-head, All-tail}
 use Rattle.std.proofs.lemmas.Slice.Eq.{bytes_eq-Decides}
@@ -23,7 +23,7 @@ use Rattle.krb_engine.specs.declared.stream.Head.{Head}
 use Rattle.krb_engine.specs.declared.stream.Opening.{Opening}
 use Rattle.krb_engine.specs.declared.stream.Judged.{Judged}
 use Rattle.krb_engine.specs.declared.stream.Judged.TheVariants.{Begins, Later, Forked}
-use Rattle.krb_engine.specs.StreamLaws.{BeginsAfterTheClose, OwnHistoryGoesOn, Session, IsSession, IsUntried, BeginInTurn, effects_of, texts_of, StreamsTakeEffectInOrder, WholeStreamsTakeEffect}
+use Rattle.krb_engine.specs.StreamLaws.{BeginsAfterTheClose, FirstOneBegins, OwnHistoryGoesOn, Session, IsSession, IsUntried, BeginInTurn, effects_of, texts_of, StreamsTakeEffectInOrder, WholeStreamsTakeEffect}
 use Rattle.krb_engine.proofs.ReceiptLemmas.{all_took_effect}
 
 -- ---- openings
@@ -40,6 +40,14 @@ begins_after_the_close head opening is =
     let by = begins_by (nat_le opening.turn head.turn) (opening.turn == head.turn + 1) head.closed ((opening.before.number == head.took.number) && bytes_eq opening.before.history head.took.history) is in
     let same = and_parts (opening.before.number == head.took.number) (bytes_eq opening.before.history head.took.history) by.2 in
     (by.1, eqb-true opening.turn (head.turn + 1) by.0, eqb-true opening.before.number head.took.number same.0, (bytes_eq-Decides opening.before.history head.took.history).0 same.1)
+
+first_by : (b : Bool) → (if b then Begins else Later) ≡ Begins → b ≡ true
+first_by true is = refl
+first_by false is = absurd (let e : Later ≡ Begins = is in cc)
+
+pub first_one_begins : FirstOneBegins
+first_one_begins opening =
+    (λ is. eqb-true opening.turn 1 (first_by (opening.turn == 1) is), λ is. ap (λ b. if b then Begins else Later) (eq-eqb opening.turn 1 is))
 
 pub own_history_goes_on : OneHistory → OwnHistoryGoesOn
 own_history_goes_on alike first own took head opening of_took of_own is =

@@ -38,7 +38,7 @@ IsProbe state Idle = ⊥
 
 -- What is to be done, after it was seen what wasn't confirmed in time. Nothing, if all is done or it is
 -- stopped. Else what may leave leaves. Else, if a receipt is overdue, the last carried frame alone. Else
--- nothing before the next pause is over.
+-- nothing before the next pause is over, or it asks again for room.
 abbrev pub Serves : SendingState → ℕ → ℕ → Command → SendingState → Type 0
 Serves old room now Idle new = (is_settled old ≡ true) × (new ≡ old)
 Serves old room now (Publish from count) new =
@@ -49,7 +49,7 @@ Serves old room now (Probe number opening) new =
     × IsProbe old (Probe number opening) × (new ≡ probed old now)
 Serves old room now (Wake at) new =
     (is_settled old ≡ false) × Rests old room now × (is_unanswered old now ≡ false)
-    × (at ≡ wake_time old (batch old room)) × (new ≡ old)
+    × (at ≡ wake_time old (batch old room) room now) × (new ≡ old)
 
 -- ---- a receiver
 

@@ -16,15 +16,16 @@ use Rattle.krb_copies.specs.Receipt.{history_below, IsTrue as IsTrueReceipt}
 use Rattle.krb_copies.specs.Copies.{Copy, own_frames, World, new_world, with_state, Event, Hears as CopyHears, Steps as CopySteps, LeadsCopies}
 use Rattle.krb_copies.specs.Laws.{AreItsOwn}
 use Rattle.krb_queue.specs.declared.pause.Pause.{Pause}
+use Rattle.krb_queue.specs.Pause.{begun}
 use Rattle.krb_queue.specs.Laws.{pauses}
 use Rattle.krb_engine.specs.declared.sending.Asks.{Asks}
 use Rattle.krb_engine.specs.declared.sending.Command.{Command}
 use Rattle.krb_engine.specs.declared.sending.Command.TheVariants.{Publish, Probe, Wake, Idle}
 use Rattle.krb_engine.specs.declared.sending.Heard.{Heard}
 use Rattle.krb_engine.specs.declared.sending.Heard.TheVariants as hears
-use Rattle.krb_engine.specs.Limits.{again_most, probe_most, service_most, window_most}
+use Rattle.krb_engine.specs.Limits.{again_most, probe_most, room_pause, service_most, window_most}
 use Rattle.krb_engine.specs.SendingState.{SendingState, IsEnd}
-use Rattle.krb_engine.specs.Sending.{loaded, sealed, confirmed, listed, reconnected, is_lost, looked, is_settled, end_of}
+use Rattle.krb_engine.specs.Sending.{loaded, sealed, confirmed, listed, reconnected, is_lost, looked, is_settled, never, end_of}
 use Rattle.krb_engine.specs.Calls.{Hears, Serves}
 
 -- ---- what happens to a session's end
@@ -189,25 +190,26 @@ SealsOneAfterAnother =
 
 -- ---- nothing stands still
 
--- one of its pauses is over at this time
-pub data EndsAt (state : SendingState) (at : ℕ) : Type 0 where
-  Again : at ≡ end_of state.again → EndsAt state at
-  Unanswered : at ≡ end_of state.probe → EndsAt state at
-  Asked : (pause : Pause) → state.ask ≡ Some pause → at ≡ end_of pause → EndsAt state at
+-- one of its pauses is over at this time, or it asks again for room, of which there is none
+pub data EndsAt (state : SendingState) (room now at : ℕ) : Type 0 where
+  Again : at ≡ end_of state.again → EndsAt state room now at
+  Unanswered : at ≡ end_of state.probe → EndsAt state room now at
+  Asked : (pause : Pause) → state.ask ≡ Some pause → at ≡ end_of pause → EndsAt state room now at
+  Full : room ≡ 0 → at ≡ end_of (begun room_pause now) → EndsAt state room now at
 
--- Unless all is done, or it is stopped, it has something to do whenever it is served, or a time at which a
--- pause is over.
-abbrev pub HasSomethingToDo : SendingState → Command → Type 0
-HasSomethingToDo state (Publish from count) = (state.done ≤ from) × (0 < count)
-HasSomethingToDo state (Probe number opening) = state.done ≤ number
-HasSomethingToDo state (Wake at) = EndsAt state at
-HasSomethingToDo state Idle = ⊥
+-- Unless all is done, or it is stopped, it has something to do whenever it is served and whatever room
+-- there is, or a time that is still to come, at which a pause is over.
+abbrev pub HasSomethingToDo : SendingState → ℕ → ℕ → Command → Type 0
+HasSomethingToDo state room now (Publish from count) = (state.done ≤ from) × (0 < count)
+HasSomethingToDo state room now (Probe number opening) = state.done ≤ number
+HasSomethingToDo state room now (Wake at) = EndsAt state room now at × (now < at)
+HasSomethingToDo state room now Idle = ⊥
 
 abbrev pub NothingStandsStill : Type 0
 NothingStandsStill =
     (old : SendingState) (room now : ℕ) (command : Command) (new : SendingState)
-    → IsEnd old → is_settled old ≡ false → 0 < room → Serves (looked old now) room now command new
-    → HasSomethingToDo (looked old now) command
+    → IsEnd old → is_settled old ≡ false → now < never → Serves (looked old now) room now command new
+    → HasSomethingToDo (looked old now) room now command
 
 -- What leaves in one service is stored, and few: within what one service has, what the shard has room for,
 -- and the session's window.

@@ -5,6 +5,7 @@ pub mod Sending
 pub mod Receiving
 pub mod Calls
 pub mod Laws
+pub mod Liveness
 pub mod ReceivingLaws
 pub mod Shards
 pub mod ShardLaws

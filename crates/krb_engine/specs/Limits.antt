@@ -33,6 +33,10 @@ ask_first = 4000
 abbrev pub ask_most : ℕ
 ask_most = 64000
 
+-- until a session asks again for room in its shard
+abbrev pub room_pause : ℕ
+room_pause = 2000
+
 -- so many frames of a shard are under way at most
 abbrev pub under_way_most : ℕ
 under_way_most = 2048

@@ -1,14 +1,16 @@
 -- What the laws of a session's end at a receiver state.
-use Rattle.std.specs.Prelude.{◌≡◌, ◌↔◌, ℕ, ◌+◌, ◌<◌, ◌≤◌, Bool, true, false, List, [], ◌∷◌, ◌++◌, length, All, Option, Some, None}
+use Rattle.std.specs.Prelude.{◌≡◌, ◌⊎◌, ◌↔◌, ℕ, ◌+◌, ◌<◌, ◌≤◌, Bool, true, false, List, [], ◌∷◌, ◌++◌, length, All, Option, Some, None, is_some}
 use Rattle.krb_copies.specs.declared.receipt.Receipt.{Receipt}
 use Rattle.krb_copies.specs.Receipt.{history_of, IsTrue}
 use Rattle.krb_engine.specs.declared.sending.Asks.{Asks}
+use Rattle.krb_engine.specs.declared.sending.Asks.TheVariants as asks
 use Rattle.krb_engine.specs.declared.receiving.Outcome.{Outcome}
 use Rattle.krb_engine.specs.declared.receiving.Outcome.TheVariants.{Accepted, Repeat, Early, Unknown, Unsettled}
 use Rattle.krb_engine.specs.declared.receiving.Row.{Row}
 use Rattle.krb_engine.specs.declared.receiving.Seen.{Seen}
 use Rattle.krb_engine.specs.declared.receiving.Receiving.{Receiving}
 use Rattle.krb_engine.specs.Receiving.{outcome, took, stored, dropped}
+use Rattle.krb_engine.specs.Sending.{is_over}
 use Rattle.krb_engine.specs.Calls.{AnswersReceipt}
 
 -- the row says that these frames took effect, the session's first number being `first`
@@ -93,3 +95,33 @@ RefusesByNumber =
     × (((number : ℕ) × (seen.opened ≡ Some number) × (row.demanded.number < number)) → outcome row seen ≡ Early)
     × ((seen.opened ≡ Some row.demanded.number) → outcome row seen ≡ Unsettled)
     × ((seen.opened ≡ None) → outcome row seen ≡ Unknown)
+
+-- Whatever is the session's is owed a receipt: one that asks for nothing more if the frame was accepted, for
+-- the demanded frame if it came early, and for that again later if it was refused. What doesn't open
+-- changes nothing that is owed.
+abbrev pub OwesReceipt : Option Asks → Outcome → Option Asks → Type 0
+OwesReceipt before Accepted owed = owed ≡ Some asks.Nothing
+OwesReceipt before Repeat owed = is_some owed ≡ true
+OwesReceipt before Early owed = (owed ≡ Some asks.Missing) ⊎ (owed ≡ Some asks.Refused)
+OwesReceipt before Unknown owed = owed ≡ before
+OwesReceipt before Unsettled owed = owed ≡ Some asks.Refused
+
+abbrev pub ReceiptsAreOwed : Type 0
+ReceiptsAreOwed =
+    (old : Receiving) (frame : List ℕ) (seen : Seen)
+    → OwesReceipt old.owed (outcome old.drafted seen) (took old frame seen).owed
+
+-- What is owed leaves after the pause, once the transaction took effect: of what it stored.
+abbrev pub ReceiptsLeave : Type 0
+ReceiptsLeave =
+    (old : Receiving) (now : ℕ) (it : Asks) (answer : Option (Receipt × Asks)) (new : Receiving)
+    → old.owed ≡ Some it → is_over old.paid now ≡ true
+    → AnswersReceipt (stored old) now answer new → answer ≡ Some (old.drafted.demanded, it)
+
+-- A close that was accepted is stored with its transaction, and no frame is accepted after it.
+abbrev pub ClosesAreStored : Type 0
+ClosesAreStored =
+    (old : Receiving) (frame : List ℕ) (seen later : Seen)
+    → outcome old.drafted seen ≡ Accepted → seen.is_close ≡ true
+    → ((stored (took old frame seen)).stored.closed ≡ true)
+    × (outcome (stored (took old frame seen)).stored later ≡ Repeat)

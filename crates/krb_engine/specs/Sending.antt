@@ -5,7 +5,7 @@ use Rattle.krb_queue.specs.declared.pause.Pause.{Pause}
 use Rattle.krb_queue.specs.Pause.{begun, longer}
 use Rattle.krb_carry.specs.ProgressState.{ProgressState}
 use Rattle.krb_carry.specs.Progress.{Store, Publish, Rewind, Confirm, after, resumed, counted}
-use Rattle.krb_engine.specs.Limits.{window_first, window_most, service_most, again_first, again_most, probe_first, probe_most, ask_first, ask_most}
+use Rattle.krb_engine.specs.Limits.{window_first, window_most, service_most, again_first, again_most, probe_first, probe_most, ask_first, ask_most, room_pause}
 use Rattle.krb_copies.specs.declared.receipt.Finding.{Finding}
 use Rattle.krb_copies.specs.declared.receipt.Finding.TheVariants as findings
 use Rattle.krb_engine.specs.declared.sending.Ended.{Ended}
@@ -106,9 +106,10 @@ settled state number now = record state {
   is_answered = true;
 }
 
--- it is stopped
+-- it is stopped, and gives up what is under way
 abbrev pub stopped : SendingState → Ended → SendingState
-stopped state why = record state { ended = Some why }
+stopped state why =
+    record state { progress = after state.progress Rewind; ended = Some why }
 
 -- what follows of what a receipt is, by krb_copies
 abbrev pub found : SendingState → ℕ → ℕ → Finding → SendingState
@@ -234,8 +235,14 @@ again_end state =
 abbrev pub probe_end : SendingState → ℕ
 probe_end state = if nat_lt state.done state.progress.carried then end_of state.probe else never
 
-abbrev pub wake_time : SendingState → ℕ → ℕ
-wake_time state count = min (held_end state count) (min (again_end state) (probe_end state))
+-- without room in its shard it asks again after a pause
+abbrev pub room_end : ℕ → ℕ → ℕ
+room_end room now = if room == 0 then end_of (begun room_pause now) else never
+
+abbrev pub wake_time : SendingState → ℕ → ℕ → ℕ → ℕ
+wake_time state count room now =
+    min (room_end room now)
+    (min (held_end state count) (min (again_end state) (probe_end state)))
 
 -- ---- why it stands
 

@@ -1,5 +1,5 @@
 -- What the laws of shards state.
-use Rattle.std.specs.Prelude.{◌≡◌, ℕ, ◌+◌, ◌<◌, ◌≤◌, true, false, List, [], ◌∷◌, sum, slice_get, slice_set, Some}
+use Rattle.std.specs.Prelude.{◌≡◌, ◌≢◌, ℕ, ◌+◌, ◌<◌, ◌≤◌, true, false, List, [], ◌∷◌, sum, slice_get, slice_set, Some}
 use Rattle.krb_engine.specs.Limits.{under_way_most}
 use Rattle.krb_engine.specs.declared.shards.Flow.{Flow}
 use Rattle.krb_engine.specs.declared.shards.Spot.{Spot}
@@ -46,3 +46,16 @@ OneTransactionAfterAnother =
     → old.read ≡ old.stored → LeadsOn old counts new
     → (new.read ≡ new.stored) × (new.stored.list ≡ old.stored.list)
     × (new.stored.offset ≡ old.stored.offset + sum counts)
+
+-- A shard that has a list has room for all up to the bound.
+abbrev pub RoomIsLeft : Type 0
+RoomIsLeft =
+    (flow : Flow) (list : ℕ) → flow.list ≡ Some list → flow.under_way ≤ under_way_most
+    → flow.under_way + room_of flow ≡ under_way_most
+
+-- Another list is read from its beginning, if no transaction is under way.
+abbrev pub OtherListsBegin : Type 0
+OtherListsBegin =
+    (old : Reading) (list last count : ℕ) (it : Read) (new : Reading)
+    → list ≢ old.read.list → old.is_open ≡ false → ReadsOn old list last count it new
+    → (new.read.list ≡ list) × (new.read.offset ≡ 0)

@@ -1,5 +1,5 @@
 -- What the laws of streams state.
-use Rattle.std.specs.Prelude.{◌≡◌, ◌⊎◌, ℕ, ◌+◌, true, List, [], ◌∷◌, ◌++◌, length, map, All, Some}
+use Rattle.std.specs.Prelude.{◌≡◌, ◌⊎◌, ◌↔◌, ℕ, ◌+◌, true, List, [], ◌∷◌, ◌++◌, length, map, All, Some, None}
 use Rattle.std.specs.List.{flat_map}
 use Rattle.krb_base.specs.Prefix.{IsPrefix}
 use Rattle.krb_seal.specs.Sealer.{SealerState}
@@ -21,6 +21,10 @@ BeginsAfterTheClose =
     (head : Head) (opening : Opening) → judged (Some head) opening ≡ Begins
     → (head.closed ≡ true) × (opening.turn ≡ head.turn + 1)
     × (opening.before.number ≡ head.took.number) × (opening.before.history ≡ head.took.history)
+
+-- Where the store has no session of the stream, its first one begins, and no other.
+abbrev pub FirstOneBegins : Type 0
+FirstOneBegins = (opening : Opening) → (judged None opening ≡ Begins) ↔ (opening.turn ≡ 1)
 
 -- these frames, the session's first number being `first`
 pub record IsOf (first : ℕ) (frames : List (List ℕ)) (receipt : Receipt) : Type 0 where

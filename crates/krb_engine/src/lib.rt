@@ -24,7 +24,7 @@ mod sending;
 mod shards;
 mod stream;
 
-pub use laws::{receiving_laws, sending_laws};
+pub use laws::{liveness_laws, receiving_laws, sending_laws};
 pub use parts::SendingParts;
 pub use receiving::{Outcome, Receiving, Row, Seen};
 pub use sending::{Asks, Command, Ended, Heard, Sending, Stands};

@@ -3,7 +3,7 @@
 ghost use Rattle.std.specs.Prelude.{◌≡◌, ◌↔◌, ◌+◌, ◌-◌, ◌<◌, ◌≤◌, ◌^◌, IfSome, IsSome, IsTrue, if◌then◌else◌, ◌≢◌};
 ghost use Rattle.krb_carry.specs.Progress.{Counts};
 ghost use Rattle.krb_copies.specs.Receipt.{Finds};
-ghost use Rattle.krb_engine.specs.Sending.{ask_end, batch, begins, confirmed, found, heard_of, heeded, is_asked, is_free, is_settled, is_unanswered, listed, loaded, looked, may_ask, next_ask, probed, published, reconnected, recovery_room, sealed, sealing_room, settled, stands, wake_time, wider};
+ghost use Rattle.krb_engine.specs.Sending.{ask_end, batch, begins, confirmed, found, heard_of, heeded, is_asked, is_free, is_settled, is_unanswered, listed, loaded, looked, may_ask, next_ask, probed, published, reconnected, recovery_room, sealed, sealing_room, settled, stands, stopped, wake_time, wider};
 ghost use Rattle.krb_engine.specs.Parts.{end_of_parts};
 ghost use Rattle.krb_engine.specs.SendingState.{IsEnd};
 ghost use Rattle.krb_engine.specs.Calls.{Hears, IsProbe, Serves};
@@ -32,6 +32,9 @@ const AGAIN_MOST: u64 = 64_000;
 const PROBE: u64 = 5_000;
 
 const PROBE_MOST: u64 = 960_000;
+
+/// After how many milliseconds a session asks again for room in its shard.
+const ROOM: u64 = 2_000;
 
 /// For how many milliseconds a receiver that asks again isn't heeded, at first and at most.
 const ASK: u64 = 4_000;
@@ -296,10 +299,18 @@ impl Sending {
         match finding {
             Finding::Repeat => {}
             Finding::Delivered => self.settle(receipt.number, now),
-            Finding::Older => self.ended = Some(Ended::Older),
-            Finding::Forked => self.ended = Some(Ended::Forked),
+            Finding::Older => self.stop(Ended::Older),
+            Finding::Forked => self.stop(Ended::Forked),
         }
         finding
+    }
+
+    /// It is stopped, and gives up what is under way.
+    fn stop(&mut self, why: Ended)
+        ensures { self.new ≡ stopped self.old why }
+    {
+        self.progress.rewind();
+        self.ended = Some(why);
     }
 
     /// All frames below this number took effect.
@@ -382,7 +393,7 @@ impl Sending {
             return self.probe(now);
         }
         Command::Wake {
-            at: self.wake_time(count),
+            at: self.wake_time(count, room, now),
         }
     }
 
@@ -455,11 +466,14 @@ impl Sending {
         }
     }
 
-    /// When the next thing is due, where so many frames wait to leave.
-    fn wake_time(&self, count: u64) -> u64
-        ensures { result ≡ wake_time self.now count }
+    /// When the next thing is due, where so many frames wait to leave, and the shard has so much room.
+    fn wake_time(&self, count: u64, room: u64, now: u64) -> u64
+        ensures { result ≡ wake_time self.now count room now }
     {
         let mut at = u64::MAX;
+        if room == 0 {
+            at = Pause::begin(ROOM, now).end();
+        }
         if count > 0 {
             at = at.min(ask_end(self.ask));
         }

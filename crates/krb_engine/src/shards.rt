@@ -2,7 +2,7 @@
 
 ghost use Rattle.std.specs.Prelude.{◌≡◌, ◌+◌, ◌^◌, ◌<◌, ◌≤◌, false};
 ghost use Rattle.krb_engine.specs.Shards.{ReadsOn, moved, read_to, room_of, taken};
-ghost use Rattle.krb_engine.specs.ShardLaws.{FewAreUnderWay, NothingIsSkipped, OneTransactionAfterAnother, UnderWayIsTheSum};
+ghost use Rattle.krb_engine.specs.ShardLaws.{FewAreUnderWay, NothingIsSkipped, OneTransactionAfterAnother, OtherListsBegin, RoomIsLeft, UnderWayIsTheSum};
 
 /// How many frames of a shard are under way at most.
 const UNDER_WAY: u64 = 2_048;
@@ -121,9 +121,14 @@ impl Reading {
 /// before, and skips none: where it goes elsewhere it goes back, or begins another list (`skips`). Of one
 /// list that isn't cut off, each transaction begins where the one before it ended, as a reading of krb_carry
 /// (`turns`).
+///
+/// A shard that has a list has room up to the bound (`room`), and another list is read from its beginning
+/// (`lists`).
 pub fn shard_laws()
     ensures sum { UnderWayIsTheSum }
     ensures few { FewAreUnderWay }
     ensures skips { NothingIsSkipped }
     ensures turns { OneTransactionAfterAnother }
+    ensures room { RoomIsLeft }
+    ensures lists { OtherListsBegin }
 {}

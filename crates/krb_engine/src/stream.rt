@@ -2,7 +2,7 @@
 
 ghost use Rattle.std.specs.Prelude.{◌≡◌};
 ghost use Rattle.krb_engine.specs.Stream.{judged};
-ghost use Rattle.krb_engine.specs.StreamLaws.{BeginsAfterTheClose, OwnHistoryGoesOn, StreamsTakeEffectInOrder, WholeStreamsTakeEffect};
+ghost use Rattle.krb_engine.specs.StreamLaws.{BeginsAfterTheClose, FirstOneBegins, OwnHistoryGoesOn, StreamsTakeEffectInOrder, WholeStreamsTakeEffect};
 
 use krb_carry::delivery_laws;
 use krb_copies::Receipt;
@@ -66,7 +66,7 @@ pub fn judge(head: Option<Head>, opening: &Opening) -> Judged
 /// What holds of a stream, whose sessions come one after the other.
 ///
 /// A session begins only after the close of the one before it took effect, on the number and the digest
-/// that its opening names (`begins`). So its sender sealed all that took effect in that one: its own frames
+/// that its opening names (`begins`). Where there is none before it, the first one begins, and no other (`first`). So its sender sealed all that took effect in that one: its own frames
 /// there have the tags of those that took effect, or two texts with one SHA-1 are found (`own`). Then what takes effect of all sessions together is a prefix of the texts that were put
 /// in, over all sessions, in their order and each once (`order`), whatever processes of both ends died,
 /// were slow or came twice, and whatever the carrier does. It is all of them, once nothing waits in any
@@ -77,6 +77,7 @@ pub fn judge(head: Option<Head>, opening: &Opening) -> Judged
 /// begins.
 pub fn stream_laws()
     ensures begins { BeginsAfterTheClose }
+    ensures first { FirstOneBegins }
     ensures own { OwnHistoryGoesOn }
     ensures order { StreamsTakeEffectInOrder }
     ensures all { WholeStreamsTakeEffect }

@@ -4,8 +4,8 @@
 use krb_copies::Receipt;
 use krb_engine::{
     Asks, Command, Ended, Flow, Head, Heard, Judged, Opening, Outcome, Read, Reading, Receiving,
-    Row, Seen, Sending, SendingParts, Spot, Stands, judge, receiving_laws, sending_laws,
-    shard_laws, stream_laws,
+    Row, Seen, Sending, SendingParts, Spot, Stands, judge, liveness_laws, receiving_laws,
+    sending_laws, shard_laws, stream_laws,
 };
 use krb_queue::{Pause, Queue, pause_laws, queue_laws};
 use std::process::Abort;
@@ -151,6 +151,8 @@ fn frames_leave_until_the_window_is_full(rt: HostRuntime) {
             Step::Serves(256, 2_099, wake(2_100)),
             Step::Serves(256, 2_100, publish(1, 16)),
             Step::Reconnected,
+            // without room it asks again
+            Step::Serves(0, 2_200, wake(4_200)),
             Step::Serves(256, 2_200, publish(1, 16)),
             Step::Listed(5, false),
             Step::Listed(6, true),
@@ -158,6 +160,7 @@ fn frames_leave_until_the_window_is_full(rt: HostRuntime) {
         ],
     );
     sending_laws();
+    liveness_laws();
 }
 
 #[test]
@@ -250,17 +253,20 @@ fn receipts_alone_settle(rt: HostRuntime) {
 
 #[test]
 fn an_older_outbox_and_a_fork_are_stopped(rt: HostRuntime) {
-    let mut older = Sending::load(4, 4, 9, 0, 5, 0);
+    let mut older = Sending::load(4, 2, 9, 0, 5, 0);
     take_steps(
         &rt,
         &mut older,
         &[
+            Step::Serves(256, 0, publish(2, 2)),
             Step::Receipt(5, OWN, Asks::Nothing, 0, Heard::Ended),
             Step::Stands(Some(Stands::Stopped(Ended::Older))),
             Step::Serves(256, 99_000, Command::Idle),
         ],
     );
     assert_eq!(rt; older.ended(), Some(Ended::Older));
+    // it gives up what was under way
+    assert_eq!(rt; older.under_way(), 0);
     let mut forked = Sending::load(4, 4, 9, 0, 5, 0);
     take_steps(
         &rt,
