@@ -9,6 +9,7 @@ import tomllib
 
 import pytest
 
+import sources
 from lib import parts, scripts
 from lib.build import building
 
@@ -576,7 +577,8 @@ def carrier_files():
     """What the carrier's Makefile compiles and installs."""
     text = building.text_of("carrier/Makefile")
     installed = re.findall(r"systemd/\w+\.conf|systemd/\*\.service|man/\*\.8", text)
-    return [*re.findall(r"\b\w+\.c\b", text), *installed, "status", "carrier.h"]
+    names = [*re.findall(r"\b\w+\.c\b", text), "carrier.h"]
+    return [*(os.path.relpath(sources.place_of(it), sources.CARRIER) for it in names), *installed, "status"]
 
 
 @compared(of_refusals)

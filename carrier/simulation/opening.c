@@ -1,4 +1,4 @@
-/* Which session a frame belongs to at a receiver, and whether a stream's session begins (carrier/shard_open.c). */
+/* Which session a frame belongs to at a receiver, and whether a stream's session begins (carrier/receiver/shard_open.c). */
 #include "calls.h"
 
 #include <string.h>

@@ -1,4 +1,4 @@
-/* What a receiver takes a frame for, and the effects of its texts (carrier/shard.c, effects.c). */
+/* What a receiver takes a frame for, and the effects of its texts (carrier/receiver/shard.c, effects.c). */
 #include "calls.h"
 
 #include <string.h>

@@ -1,5 +1,5 @@
 /* A sender's transactions: which texts are sealed, in which session, and what is stored beside them
- * (carrier/texts.c, sender.c, sender_streams.c). */
+ * (carrier/sender/texts.c, sender.c, sender_streams.c). */
 #include "calls.h"
 
 #include <string.h>

@@ -1,4 +1,4 @@
-/* Whose turn it is at a sender, and what leaves then: as krb_engine says (carrier/publish.c). */
+/* Whose turn it is at a sender, and what leaves then: as krb_engine says (carrier/sender/publish.c). */
 #include "calls.h"
 
 #include <string.h>

@@ -5,9 +5,10 @@ nothing, or a call with `(void)` before it and a comment that says why. A functi
 answers nothing if it is declared so there; of all others NOTHING has those that do, or whose answer
 is what they were given. So the answer of a function that is new here has to be looked at, or its
 name has to be put in that table."""
-import glob
 import os
 import re
+
+import sources
 
 # Functions of libraries that answer nothing, or a place that they were given.
 NOTHING = {
@@ -170,7 +171,7 @@ def faults_of(name, text, void):
 def faults(folder):
     """Each ignored answer of a folder's sources."""
     texts = {}
-    for path in sorted(glob.glob(f"{folder}/*.[ch]")):
+    for path in sources.all_of(folder):
         with open(path, encoding="utf-8") as file:
             texts[os.path.basename(path)] = file.read()
     void = void_functions(texts.values())

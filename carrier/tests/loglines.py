@@ -1,4 +1,4 @@
-"""The log of senders and receivers (carrier/log.h): what a line says, whether all lines have its form,
+"""The log of senders and receivers (carrier/base/log.h): what a line says, whether all lines have its form,
 and whether no event comes more often than it may."""
 import collections
 import datetime

@@ -3,6 +3,8 @@ its name, the file, the text that stands there once, and what takes its place.""
 import os
 import shutil
 
+import sources as places
+
 # The case of repro.py that has to find it; the others are for chaos.
 CASES = {
     "receipts ask for nothing": "unstable_offsets",
@@ -136,7 +138,7 @@ def write(name, sources, folder):
     """Writes a copy of the sources with the bug. The text has to stand there once."""
     path, old, new = (EDITS | TICKET_EDITS)[name]
     shutil.copytree(sources, folder, ignore=shutil.ignore_patterns("out"))
-    path = os.path.join(folder, path)
+    path = places.place_of(path, folder)
     with open(path, encoding="utf-8") as file:
         text = file.read()
     if text.count(old) != 1:

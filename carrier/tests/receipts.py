@@ -1,4 +1,4 @@
-"""Receipts (carrier/receipts.h): cases as those of repro.py, whose sessions have a key of the way back. What
+"""Receipts (carrier/sessions/receipts.h): cases as those of repro.py, whose sessions have a key of the way back. What
 a carrier confirmed and lost is published again; nothing is lost, and nothing doubled."""
 import glob
 import os

@@ -8,6 +8,8 @@ import typing
 
 from lib.build import building
 
+import sources
+
 SOURCES = os.path.join(building.TOP, "carrier")
 SPECS = os.path.join(building.TOP, "crates", "krb_tables", "specs")
 TABLE = os.path.join(os.path.dirname(os.path.abspath(__file__)), "statements.toml")
@@ -90,8 +92,8 @@ def outside() -> list[str]:
 
 def source_of(folder: str, file: str) -> str:
     """A source with its comments blank, of this folder if it is there."""
-    path = os.path.join(folder, file)
-    with open(path if os.path.exists(path) else os.path.join(SOURCES, file), encoding="utf-8") as it:
+    path = sources.place_of(file, folder)
+    with open(path if os.path.exists(path) else sources.place_of(file), encoding="utf-8") as it:
         return COMMENT.sub(lambda one: one[0] if one[0][0] == '"' else " " * len(one[0]), it.read())
 
 
@@ -295,7 +297,7 @@ def is_counted(folder: str, text: Text) -> bool:
 def writes_in(folder: str) -> list[tuple[str, int, str]]:
     """Each text that changes a table: its file, where it stands, and the table."""
     found = []
-    for file in sorted(it for it in os.listdir(folder) if it.endswith((".c", ".h"))):
+    for file in map(os.path.basename, sources.all_of(folder)):
         for text in TEXT.finditer(source_of(folder, file)):
             found += [(file, text.start(), it) for it in WRITES.findall(sql_of(text[0]))]
     return found

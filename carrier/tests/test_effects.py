@@ -174,7 +174,7 @@ def compiled(ends):
     with open(f"{ends.folder}/mine.c", "w", encoding="ascii") as file:
         file.write(OBJECT)
     made = f"{ends.folder}/mine.so"
-    subprocess.run([*c_tools.c_compiler(), "-shared", "-fPIC", f"-I{SOURCES}", f"-I{ends.prefix}/include",
+    subprocess.run([*c_tools.c_compiler(), "-shared", "-fPIC", *(f"-I{SOURCES}/{it}" for it in ("effects", "stores", "sessions")), f"-I{ends.prefix}/include",
                     f'-DWRITTEN="{ends.folder}/written"',
                     f"{ends.folder}/mine.c", "-o", made], check=True)
     return f"object:{made}"

@@ -5,6 +5,7 @@ import os
 import re
 
 import pytest
+import sources as places
 import units
 
 HERE = os.path.dirname(os.path.abspath(__file__))
@@ -15,7 +16,7 @@ METRIC = re.compile(r"\bkrbrelay_(?:sender|receiver)_\w+")
 
 
 def text_of(name):
-    with open(os.path.join(SOURCES, name), encoding="utf-8") as file:
+    with open(places.place_of(name), encoding="utf-8") as file:
         return file.read()
 
 

@@ -9,6 +9,7 @@ import typing
 
 import pytest
 
+import sources
 import statements
 
 ROWS = statements.statements()
@@ -154,7 +155,7 @@ def test_model_lost_comparison(name, tmp_path):
 
 def test_a_new_text(tmp_path):
     for file in {text["file"] for _, _, text in TEXTS}:
-        shutil.copy(os.path.join(statements.SOURCES, file), tmp_path)
+        shutil.copy(sources.place_of(file), tmp_path)
     with open(tmp_path / "outbox.c", "a", encoding="utf-8") as file:
         file.write('static const char again[] = "UPDATE session SET"\n    " next = 0";\n')
     assert statements.unknown(tmp_path) == ["outbox.c: a text that changes session"]
