@@ -264,7 +264,7 @@ rt: krb_time is kept: an earlier run on this machine proved the same files over 
 == krb_lane
 logic=proved functions=40 may-wait=5 sum=1 native=nat
 rt: krb_lane proved
-rt: krb_plan proved
+rt: krb_record proved
 logic=rejected functions=3 sum=1
 rt: krb_tlv NOT PROVED
 """.splitlines()

@@ -6,8 +6,8 @@ use Rattle.std.specs.List.{starts_with}
 use Rattle.toml.specs.Data.{Data, string}
 use Rattle.hex.specs.Hex.{decode_sized}
 use Rattle.krb_base.specs.Limits.{raw_limit}
-use Rattle.krb_plan.specs.declared.plan.Emit.{Emit}
-use Rattle.krb_plan.specs.declared.plan.Emit.TheVariants.{Frame, Flip, Raw}
+use Rattle.krb_record.specs.declared.plan.Emit.{Emit}
+use Rattle.krb_record.specs.declared.plan.Emit.TheVariants.{Frame, Flip, Raw}
 use Rattle.krb_base.specs.Steps.{◌>>=◌}
 use Rattle.krb_job.specs.Decimal.{decimal_of}
 use Rattle.krb_job.specs.Text.{split_at}

@@ -4,7 +4,7 @@ use Rattle.std.specs.Prelude.{if◌then◌else◌}
 use Rattle.toml.specs.Data.{Data, array, Items, no_items, item}
 use Rattle.krb_base.specs.Limits.{text_limit, raw_limit, texts_limit, entries_limit}
 use Rattle.krb_der.specs.Moment.{last_moment}
-use Rattle.krb_plan.specs.declared.plan.Emit.{Emit}
+use Rattle.krb_record.specs.declared.plan.Emit.{Emit}
 use Rattle.krb_base.specs.Steps.{◌>>=◌}
 use Rattle.krb_job.specs.Emission.{emission_of}
 use Rattle.krb_job.specs.Values.{number_of, bytes_of}

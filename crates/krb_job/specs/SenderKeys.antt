@@ -13,7 +13,7 @@ use Rattle.krb_job.specs.declared.place.Place.TheVariants.{Seed, At, Now, Texts,
 use Rattle.krb_job.specs.declared.place.Place.TheVariants.{Frames, UnknownKey}
 use Rattle.krb_job.specs.declared.job.Command.{Command}
 use Rattle.krb_job.specs.declared.job.Command.TheVariants.{Seal, Open, Relay}
-use Rattle.krb_plan.specs.declared.plan.Emit.{Emit}
+use Rattle.krb_record.specs.declared.plan.Emit.{Emit}
 use Rattle.krb_job.specs.Checks.{◌>>=◌}
 use Rattle.krb_job.specs.Place.{sender_keys}
 use Rattle.krb_job.specs.Values.{number_of, etype_of, flag_of, mode_of, key_of, seed_of}

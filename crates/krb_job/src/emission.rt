@@ -10,7 +10,7 @@ use crate::place::{KeyError, Place};
 use crate::text::split_at;
 use crate::values::read_hex;
 use krb_base::RAW_LIMIT;
-use krb_plan::Emit;
+use krb_record::Emit;
 use std::alloc::Global;
 use toml::Value;
 

@@ -10,7 +10,7 @@ ghost use Rattle.krb_job.specs.SenderKeys.{seals, opens};
 
 use krb_base::{Bytes, Secret};
 use krb_der::{HostAddress, Moment};
-use krb_plan::Emit;
+use krb_record::Emit;
 use krb_seal::{Etype, Mode};
 
 /// The commands that read a job.

@@ -13,7 +13,7 @@ use crate::place::{KeyError, Place};
 use crate::values::read_bytes;
 use krb_base::{Bytes, ENTRIES_LIMIT, RAW_LIMIT, TEXT_LIMIT, TEXTS_LIMIT};
 use krb_der::Moment;
-use krb_plan::Emit;
+use krb_record::Emit;
 use std::alloc::Global;
 use toml::Value;
 use toml::value::Array;

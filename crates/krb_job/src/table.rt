@@ -19,7 +19,7 @@ use crate::place::{KeyError, Place};
 use crate::values::{read_etype, read_mode, read_number, read_seed};
 use krb_base::{BATCH_LIMIT, Bytes};
 use krb_der::{HostAddress, Moment};
-use krb_plan::Emit;
+use krb_record::Emit;
 use krb_seal::{Etype, Mode};
 use std::alloc::Global;
 use toml::{Table, Value};

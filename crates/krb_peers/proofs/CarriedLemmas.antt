@@ -9,8 +9,8 @@ use Rattle.std.proofs.lemmas.Option.{slice_get-get_or, slice_get_within}
 use Rattle.krb_record.specs.declared.record.Record.{Record}
 use Rattle.krb_record.specs.declared.record.Record.TheVariants as records
 use Rattle.krb_record.specs.Record.{texts_of, is_close, record_for}
-use Rattle.krb_plan.specs.declared.plan.Emit.{Emit}
-use Rattle.krb_plan.specs.declared.plan.Emit.TheVariants.{Frame}
+use Rattle.krb_record.specs.declared.plan.Emit.{Emit}
+use Rattle.krb_record.specs.declared.plan.Emit.TheVariants.{Frame}
 use Rattle.krb_peers.specs.Attempt.{DemandsAfter, IsAttemptAfter, TakesInTurn}
 use Rattle.krb_peers.specs.Ends.{Ends}
 use Rattle.krb_peers.specs.Order.{demand_after, first_demand}

@@ -3,7 +3,7 @@ use Rattle.std.proofs.Common.{◌≡◌, ℕ, zero, suc, ◌<◌, Bool, IsTrue, 
 use Rattle.std.specs.Prelude.{if◌then◌else◌, bit_xor}
 use Rattle.std.proofs.lemmas.Nat.{xor_lt}
 use Rattle.krb_base.specs.Bytes.{AreBytes}
-use Rattle.krb_plan.specs.declared.plan.Emit.{Emit}
+use Rattle.krb_record.specs.declared.plan.Emit.{Emit}
 use Rattle.krb_peers.specs.Plan.{is_good, is_good_emission, frame_at, flipped, emission, emissions, wire}
 use Rattle.krb_peers.specs.Verdicts.{AllBytes}
 use Rattle.krb_peers.proofs.ListLemmas.{all_pass}

@@ -17,8 +17,8 @@ use Rattle.krb_record.proofs.GroupLemmas.{small_groups}
 use Rattle.krb_record.proofs.RecordLemmas.{same_first}
 use Rattle.krb_seal.specs.Sealer.{SealerState}
 use Rattle.krb_peers.specs.declared.delivery.Delivery.{Delivery}
-use Rattle.krb_plan.specs.declared.plan.Emit.{Emit}
-use Rattle.krb_plan.specs.declared.plan.Emit.TheVariants.{Frame, Flip, Raw}
+use Rattle.krb_record.specs.declared.plan.Emit.{Emit}
+use Rattle.krb_record.specs.declared.plan.Emit.TheVariants.{Frame, Flip, Raw}
 use Rattle.krb_peers.specs.Attempt.{HasKey, DemandsAfter, IsAttemptAfter}
 use Rattle.krb_peers.specs.Demand.{Demand}
 use Rattle.krb_peers.specs.Draws.{confounder_at}

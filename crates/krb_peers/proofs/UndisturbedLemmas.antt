@@ -4,8 +4,8 @@ use Rattle.std.proofs.lemmas.Bool.{lt-ltb}
 use Rattle.std.proofs.lemmas.List.{length-map}
 use Rattle.std.proofs.lemmas.List.Folds.{list_all-append}
 use Rattle.std.proofs.lemmas.Option.{slice_get_within}
-use Rattle.krb_plan.specs.declared.plan.Emit.{Emit}
-use Rattle.krb_plan.specs.declared.plan.Emit.TheVariants.{Frame}
+use Rattle.krb_record.specs.declared.plan.Emit.{Emit}
+use Rattle.krb_record.specs.declared.plan.Emit.TheVariants.{Frame}
 use Rattle.krb_peers.specs.Plan.{is_good, is_good_emission, emission, emissions, wire}
 use Rattle.krb_peers.specs.Planned.{in_order, IsInOrder}
 use Rattle.krb_peers.proofs.ListLemmas.{slice_get-front, slice_get-end, lt_or_same}

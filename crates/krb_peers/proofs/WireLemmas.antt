@@ -1,6 +1,6 @@
 -- What a sender puts on its wire.
 use Rattle.std.proofs.Common.{◌≡◌, ℕ, true, false, List, Option, sym, ap, ◌∙◌}
-use Rattle.krb_plan.specs.declared.plan.Emit.{Emit}
+use Rattle.krb_record.specs.declared.plan.Emit.{Emit}
 use Rattle.krb_peers.specs.Plan.{is_planned, wire}
 use Rattle.krb_peers.specs.Sender.{IsWithinLimits, Source, records, AreFrames}
 use Rattle.krb_peers.specs.Verdicts.{AllBytes}

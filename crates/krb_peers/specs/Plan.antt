@@ -4,8 +4,8 @@ use Rattle.std.specs.Prelude.{ℕ, ◌==◌, nat_lt, Bool, true, not, ◌&&◌, 
 use Rattle.std.specs.Prelude.{Vec, Option, Some, None, slice_index, slice_index_or, slice_set}
 use Rattle.std.specs.Prelude.{bit_xor, if◌then◌else◌}
 use Rattle.std.specs.List.{list_all}
-use Rattle.krb_plan.specs.declared.plan.Emit.{Emit}
-use Rattle.krb_plan.specs.declared.plan.Emit.TheVariants.{Frame, Flip, Raw}
+use Rattle.krb_record.specs.declared.plan.Emit.{Emit}
+use Rattle.krb_record.specs.declared.plan.Emit.TheVariants.{Frame, Flip, Raw}
 use Rattle.krb_peers.specs.declared.plan.EmitError.{EmitError}
 use Rattle.krb_peers.specs.declared.plan.EmitError.TheVariants.{BadPlan, Memory}
 

@@ -7,8 +7,8 @@ use Rattle.krb_record.specs.declared.record.Record.{Record}
 use Rattle.krb_seal.specs.Laws.{Agree}
 use Rattle.krb_peers.specs.declared.delivery.Delivery.{Delivery}
 use Rattle.krb_peers.specs.declared.log.Event.{Event}
-use Rattle.krb_plan.specs.declared.plan.Emit.{Emit}
-use Rattle.krb_plan.specs.declared.plan.Emit.TheVariants.{Frame, Flip, Raw}
+use Rattle.krb_record.specs.declared.plan.Emit.{Emit}
+use Rattle.krb_record.specs.declared.plan.Emit.TheVariants.{Frame, Flip, Raw}
 use Rattle.krb_peers.specs.Attempt.{Attempt, demand_at, IsAttemptAfter, TakesInTurn}
 use Rattle.krb_peers.specs.Claims.{NothingAfterClose, RefusesExactly, RefusalsDeliverNothing}
 use Rattle.krb_peers.specs.Texts.{texts_of_all}

@@ -10,7 +10,7 @@ use Rattle.krb_seal.specs.Sealer.{SealerState}
 use Rattle.krb_seal.specs.Seals.{Seals}
 use Rattle.krb_record.specs.declared.record.Record.{Record}
 use Rattle.krb_record.specs.declared.record.Record.TheVariants.{Close}
-use Rattle.krb_plan.specs.declared.plan.Emit.{Emit}
+use Rattle.krb_record.specs.declared.plan.Emit.{Emit}
 use Rattle.krb_record.specs.Record.{bytes_of, record_for}
 use Rattle.krb_peers.specs.Draws.{confounder_at}
 use Rattle.krb_peers.specs.Moments.{moment_at}

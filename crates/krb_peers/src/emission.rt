@@ -7,7 +7,7 @@ ghost use Rattle.krb_peers.specs.Verdicts.{AllBytes};
 
 use crate::plan::EmitError;
 use krb_base::known_bytes;
-use krb_plan::Emit;
+use krb_record::Emit;
 use std::alloc::{AllocError, Global};
 
 /// What `plan` makes of `frames`: one frame for each emission, in order.

@@ -16,7 +16,7 @@ use crate::confounder::draw_confounder;
 use crate::gate::{Gate, NoGate};
 use krb_base::{Bytes, LAST_NUMBER, known_bytes};
 use krb_der::Moment;
-use krb_plan::Emit;
+use krb_record::Emit;
 use krb_record::{Record, group_bytes, group_end, record_bytes};
 use krb_seal::{SealError, Sealer};
 use rand_chacha::ChaCha20Rng;

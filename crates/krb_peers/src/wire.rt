@@ -5,7 +5,7 @@ ghost use Rattle.krb_peers.specs.Plan.{contents, is_planned, wire};
 ghost use Rattle.krb_peers.specs.Verdicts.{AllBytes};
 
 use crate::emission::{emit_one, is_good, known_emissions};
-use krb_plan::Emit;
+use krb_record::Emit;
 use std::alloc::{AllocError, Global};
 use std::marker::Model;
 

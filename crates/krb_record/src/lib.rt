@@ -13,15 +13,20 @@
 //! let texts = read_batch(rt.alloc(), b"\x42\0\0\0\x01\x61\0\0\0\x01\x62")?;
 //! assert_same(&rt, texts.as_slice().len(), 2);
 //! ```
+//!
+//! Plans of a wire, which may repeat, drop, reorder and change the frames of a sender on purpose: a
+//! list of emissions ([`Emit`]). What a plan puts on a wire is krb_peers' to say.
 #![tactic(auto)]
 
 mod batch;
 mod groups;
+mod plan;
 mod record;
 mod texts;
 
 pub use batch::{BATCH_BYTE, BatchError, batch_bytes, batch_laws, read_batch};
 pub use groups::{group_end, group_laws};
+pub use plan::Emit;
 pub use record::{
     Record, RecordError, RecordKind, group_bytes, into_record, read_record, record_bytes,
     record_laws,

@@ -2,7 +2,7 @@
 use Rattle.std.proofs.Common.{◌<◌, length, take, get_or, subst, arith}
 use Rattle.std.proofs.lemmas.List.{map_push, take_more}
 use Rattle.krb_base.specs.Bytes.{AreBytes}
-use Rattle.krb_plan.specs.declared.plan.Emit.{Emit}
+use Rattle.krb_record.specs.declared.plan.Emit.{Emit}
 use Rattle.krb_peers.specs.Plan.{contents, emission}
 use Rattle.krb_peers.proofs.ListLemmas.{AllBytes-push}
 use Rattle.krb_peers.proofs.emission.known_emissions.Goals as goal
