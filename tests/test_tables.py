@@ -17,8 +17,8 @@ HEADER, SYMBOLS = "c/krbrelay.h", "c/krbrelay.map"
 REFUSALS, LIMITS = "crates/krb_seal/src/refusal.rt", "crates/krb_base/src/limits.rt"
 HELP = "crates/krb_program/src/help.rt"
 # The structs of the C library in Rust, and how C writes their types. Handles are none of them.
-STRUCTS = ("crates/krb_structs/src/*.rt", "crates/krb_bulk_structs/src/unsealed.rt",
-           "crates/krb_takes/src/frame.rt", "crates/krb_takes/src/taken.rt",
+STRUCTS = ("crates/krb_structs/src/*.rt", "crates/krb_calls/src/unsealed.rt",
+           "crates/krb_calls/src/frame.rt", "crates/krb_calls/src/taken.rt",
            "crates/krb_carrier_structs/src/*.rt", "crates/krb_window/src/window.rt")
 HANDLES = {"sealer", "opener", "receiver", "peer", "queue"}
 C_TYPES = {"uint64_t": "u64", "uint32_t": "u32", "int32_t": "i32", "uint8_t": "u8", "size_t": "usize",
@@ -32,7 +32,7 @@ PYTHON_TYPES = {"c_uint64": "u64", "c_uint32": "u32", "c_int32": "i32", "c_uint8
 LENT = re.compile(r"&'\w+ \[u8\]")
 ORACLE = "tests/oracle"
 SIZES = ("crates/krb_structs/src/room.rt", "crates/krb_structs/src/session.rt",
-         "crates/krb_bulk_structs/src/many.rt", "crates/krb_takes/src/many.rt", "crates/krb_commands/src/input.rt")
+         "crates/krb_calls/src/many.rt", "crates/krb_calls/src/takes_many.rt", "crates/krb_commands/src/input.rt")
 VERSION, PAGES = "VERSION", "c/man"
 CALLS, PACKAGE = "crates/krb_c/src/message_calls.rt", "python/tests/test_library.py"
 # Where the version stands: the file, the words around it, and what of it stands there. A symbol's
@@ -471,8 +471,8 @@ def of_fields():
     fields = tomllib.loads(building.text_of("tables/fields.toml"))
     for path, row in (("src/field.rt", r"Field::(\w+) => (\d+),"), ("specs/Field.antt", r"^number_of (\w+) = (\d+)$")):
         proved = {name: int(number) for name, number in
-                  re.findall(row, building.text_of(f"crates/krb_fields/{path}"), re.M)}
-        yield f"crates/krb_fields/{path}", proved, {"".join(word.title() for word in name.split("_")): it["number"]
+                  re.findall(row, building.text_of(f"crates/krb_calls/{path}"), re.M)}
+        yield f"crates/krb_calls/{path}", proved, {"".join(word.title() for word in name.split("_")): it["number"]
                                                     for name, it in fields.items()}
     for name, row in fields.items():
         yield f"tables/fields.toml, {name}", row["name"], name.lower()

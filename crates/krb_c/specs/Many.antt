@@ -5,11 +5,11 @@ use Rattle.krb_seal.specs.Sealer.{SealerState}
 use Rattle.krb_structs.specs.declared.fault.Fault.TheVariants.{Argument, Empty}
 use Rattle.krb_structs.specs.Fault.{Needs, fault_code}
 use Rattle.krb_structs.specs.Peer.{PeerState, peer_sealed_many}
-use Rattle.krb_bulk_structs.specs.declared.many_fault.ManyFault.{ManyFault}
-use Rattle.krb_bulk_structs.specs.declared.many_fault.ManyFault.TheVariants.{Message, All}
-use Rattle.krb_bulk_structs.specs.declared.unsealed.KrbUnsealed.{KrbUnsealed}
-use Rattle.krb_bulk_structs.specs.Many.{ManyAnswer}
-use Rattle.krb_bulk_structs.specs.Packed.{SealsPacked}
+use Rattle.krb_calls.specs.declared.many_fault.ManyFault.{ManyFault}
+use Rattle.krb_calls.specs.declared.many_fault.ManyFault.TheVariants.{Message, All}
+use Rattle.krb_calls.specs.declared.unsealed.KrbUnsealed.{KrbUnsealed}
+use Rattle.krb_calls.specs.Many.{ManyAnswer}
+use Rattle.krb_calls.specs.Packed.{SealsPacked}
 
 -- the handle holds a sealer, and these are the frames at its next numbers, with their sizes
 abbrev pub SealsManyTo : Option SealerState → List KrbUnsealed → List ℕ → List ℕ → List ℕ → List ℕ

@@ -5,9 +5,9 @@ use Rattle.krb_structs.specs.declared.fault.Fault.TheVariants.{Argument, Empty}
 use Rattle.krb_structs.specs.declared.moment.KrbMoment.{KrbMoment}
 use Rattle.krb_structs.specs.Fault.{IsDone, Needs, fault_code}
 use Rattle.krb_structs.specs.Reasons.{NeedsMoment}
-use Rattle.krb_takes.specs.declared.frame.KrbFrame.{KrbFrame}
-use Rattle.krb_takes.specs.declared.taken.KrbTaken.{KrbTaken}
-use Rattle.krb_takes.specs.Takes.{TakesInTurn}
+use Rattle.krb_calls.specs.declared.frame.KrbFrame.{KrbFrame}
+use Rattle.krb_calls.specs.declared.taken.KrbTaken.{KrbTaken}
+use Rattle.krb_calls.specs.Takes.{TakesInTurn}
 
 -- the handle holds a receiver, which takes the frames one after another and is this one then
 abbrev pub TakesManyTo : Option ReceiverState → KrbMoment → List KrbFrame → List KrbTaken → List ℕ

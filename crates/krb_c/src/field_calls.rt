@@ -3,11 +3,11 @@
 ghost use Rattle.std.specs.Prelude.{◌≡◌, ◌↔◌};
 ghost use Rattle.krb_structs.specs.Demand.{IsDemand};
 ghost use Rattle.krb_structs.specs.Peer.{IsPeerDemand};
-ghost use Rattle.krb_fields.specs.Session.{ExpectField, IsWholeExpect, IsWholeSession, SessionField};
-ghost use Rattle.krb_fields.specs.Demand.{DemandField, PeerDemandField};
+ghost use Rattle.krb_calls.specs.Session.{ExpectField, IsWholeExpect, IsWholeSession, SessionField};
+ghost use Rattle.krb_calls.specs.Demand.{DemandField, PeerDemandField};
 ghost use Rattle.krb_c.specs.Fields.{Tells};
 
-use krb_fields::{demand_field, expect_field, field_number, peer_demand_field, session_field};
+use krb_calls::{demand_field, expect_field, field_number, peer_demand_field, session_field};
 use krb_structs::{KrbDemand, KrbExpect, KrbSession};
 
 /// Answers the first field of a session by which a sealer or a peer refuses it, and 0 if none is.

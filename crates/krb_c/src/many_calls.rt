@@ -5,7 +5,7 @@ ghost use Rattle.krb_c.specs.Many.{ManyAnswerBy, SealsManyTo, advanced_by_if, fa
 
 use crate::handle::Handle;
 use crate::sealer_handle::KrbSealer;
-use krb_bulk_structs::{KrbUnsealed, MOST_MESSAGES, ManyFault, seal_many_into};
+use krb_calls::{KrbUnsealed, MOST_MESSAGES, ManyFault, seal_many_into};
 use krb_structs::Fault;
 use std::alloc::Global;
 

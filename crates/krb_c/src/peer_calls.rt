@@ -11,7 +11,7 @@ ghost use Rattle.krb_structs.specs.Reasons.{PeerAnswer, ResumeAnswer};
 use crate::handle::Handle;
 use crate::many_calls::many_answer;
 use crate::peer_handle::KrbPeer;
-use krb_bulk_structs::{KrbUnsealed, MOST_MESSAGES, peer_seal_many_into};
+use krb_calls::{KrbUnsealed, MOST_MESSAGES, peer_seal_many_into};
 use krb_structs::{EXPORT_SIZE, Fault, KrbCarried, KrbDemand, KrbMoment, KrbSession, Peer, answer};
 use std::alloc::Global;
 

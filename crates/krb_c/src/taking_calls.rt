@@ -6,7 +6,7 @@ ghost use Rattle.krb_c.specs.Taking.{TakeManyAnswer, TakesManyTo};
 use crate::handle::Handle;
 use crate::receiver_handle::KrbReceiver;
 use krb_structs::{Fault, KrbMoment};
-use krb_takes::{KrbFrame, KrbTaken, MOST_FRAMES, take_many_into};
+use krb_calls::{KrbFrame, KrbTaken, MOST_FRAMES, take_many_into};
 use std::alloc::Global;
 
 /// Takes these frames one after another at this moment, each as

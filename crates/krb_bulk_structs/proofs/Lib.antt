@@ -1,2 +1,0 @@
-pub mod PackedLemmas
-pub mod TurnLemmas

@@ -1,6 +1,0 @@
-use Rattle.krb_bulk_structs.proofs.TurnLemmas.{timed_read}
-use Rattle.krb_bulk_structs.proofs.checks.put_unsealed.Goals as goal
-
-pub unreachable-requires : goal.unreachable-requires
-unreachable-requires c =
-    c.in_default.ensures (timed_read c.args.messages.now c.loop-index.index _ c.loop-index-test.true c.requires.timed).1

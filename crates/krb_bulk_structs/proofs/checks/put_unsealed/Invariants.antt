@@ -1,7 +1,0 @@
-use Rattle.std.proofs.Common.{◌≡◌, take}
-use Rattle.std.specs.Prelude.{map}
-use Rattle.krb_bulk_structs.specs.Unsealed.{unsealed_of}
-use Rattle.krb_bulk_structs.proofs.checks.put_unsealed.Given as goal
-
-abbrev pub invariant-loop-index : goal.invariant-loop-index
-invariant-loop-index l = take l.index l.all ≡ map unsealed_of (take l.index l.messages)

@@ -1,4 +1,0 @@
-pub mod Unsealed
-pub mod Many
-pub mod Packed
-pub mod Checks

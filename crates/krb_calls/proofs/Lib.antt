@@ -1,0 +1,5 @@
+pub mod PackedLemmas
+pub mod TurnLemmas
+pub mod TakesTurnLemmas
+pub mod CodeLemmas
+pub mod TakenLemmas

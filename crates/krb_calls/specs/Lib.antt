@@ -1,0 +1,9 @@
+pub mod Field
+pub mod Session
+pub mod Demand
+pub mod Unsealed
+pub mod Many
+pub mod Packed
+pub mod Checks
+pub mod Takes
+pub mod Codes

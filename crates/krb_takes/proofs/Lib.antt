@@ -1,3 +1,0 @@
-pub mod TurnLemmas
-pub mod CodeLemmas
-pub mod TakenLemmas
