@@ -1,6 +1,6 @@
 //! A queue that ends like what has keys.
 
-use krb_queue::Queue;
+use krb_engine::Queue;
 use krb_structs::Wipe;
 
 /// A queue on the heap.

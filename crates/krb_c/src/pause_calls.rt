@@ -2,10 +2,10 @@
 
 ghost use Rattle.std.specs.Prelude.{◌≡◌, ◌↔◌, ◌+◌, ◌-◌, ◌≤◌, ◌^◌, min};
 ghost use Rattle.krb_carrier_structs.specs.Pause.{pause_told, told_pause};
-ghost use Rattle.krb_queue.specs.Pause.{IsOver, begun, longer};
+ghost use Rattle.krb_engine.specs.Pause.{IsOver, begun, longer};
 
 use krb_carrier_structs::KrbPause;
-use krb_queue::Pause;
+use krb_engine::Pause;
 
 /// Makes a pause that begins now.
 #[unsafe(no_mangle)]

@@ -2,12 +2,12 @@
 
 ghost use Rattle.std.specs.Prelude.{◌≡◌, ◌↔◌, ◌++◌, ◌≤◌, [], None, length, IfSome};
 ghost use Rattle.krb_c.specs.Queue.{out_of_memory, served, waiting};
-ghost use Rattle.krb_queue.specs.Queue.{with_session};
+ghost use Rattle.krb_engine.specs.Queue.{with_session};
 
 use crate::handle::Handle;
 use crate::held_queue::HeldQueue;
 use crate::queue_handle::KrbQueue;
-use krb_queue::Queue;
+use krb_engine::Queue;
 use krb_seal::Refusal;
 use krb_structs::Fault;
 use std::alloc::Global;

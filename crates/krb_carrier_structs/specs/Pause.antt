@@ -1,5 +1,5 @@
 -- A pause of C's.
-use Rattle.krb_queue.specs.declared.pause.Pause.{Pause}
+use Rattle.krb_engine.specs.declared.pause.Pause.{Pause}
 use Rattle.krb_carrier_structs.specs.declared.pause.KrbPause.{KrbPause}
 
 abbrev pub told_pause : KrbPause → Pause

@@ -1,6 +1,6 @@
 -- A session's end at a sender, of C's.
 use Rattle.std.specs.Prelude.{◌≡◌, ℕ, ◌+◌, ◌<◌, ◌≤◌, ◌^◌, ◌==◌, Option, Some, None, if◌then◌else◌}
-use Rattle.krb_queue.specs.declared.pause.Pause.{Pause}
+use Rattle.krb_engine.specs.declared.pause.Pause.{Pause}
 use Rattle.krb_engine.specs.declared.parts.SendingParts.{SendingParts}
 use Rattle.krb_engine.specs.Parts.{end_of_parts}
 use Rattle.krb_engine.specs.SendingState.{SendingState, IsEnd}

@@ -1,7 +1,7 @@
 //! What both ends of a carrier keep, as flat structs of the caller's: what `krb_c` exports under C's
 //! names.
 //!
-//! Each struct tells a value of krb_carry, krb_queue or krb_engine, or none. A function that reads one
+//! Each struct tells a value of krb_carry, krb_engine or krb_engine, or none. A function that reads one
 //! answers the value, or `None` where the numbers tell none; one that makes a struct makes it of the value.
 //! An option is a flag beside its value, or a number that no value has. Any flag but 0 says yes.
 #![tactic(auto)]

@@ -3,7 +3,7 @@
 ghost use Rattle.std.specs.Prelude.{◌≡◌};
 ghost use Rattle.krb_carrier_structs.specs.Pause.{pause_told, told_pause};
 
-use krb_queue::Pause;
+use krb_engine::Pause;
 
 /// A pause, in milliseconds of a clock that is never set.
 #[repr(C)]

@@ -8,7 +8,7 @@ use crate::numbers::{ended_of, number_of_ended};
 use crate::pause::KrbPause;
 use crate::progress::KrbProgress;
 use krb_engine::{Sending, SendingParts};
-use krb_queue::Pause;
+use krb_engine::Pause;
 
 /// One session's end at a sender.
 #[repr(C)]

@@ -5,3 +5,5 @@ pub mod LivenessLemmas
 pub mod ReceivingLemmas
 pub mod StreamLemmas
 pub mod ShardLemmas
+pub mod QueueLemmas
+pub mod PauseLemmas

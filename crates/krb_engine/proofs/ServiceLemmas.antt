@@ -3,10 +3,10 @@ use Rattle.std.proofs.Common.{◌≡◌, ◌≢◌, ◌⊎◌, ℕ, zero, suc, �
 use Rattle.std.specs.Prelude.{is_some, count_by}
 use Rattle.std.proofs.lemmas.Bool.{cases_lt, cases_eq, cases_Bool, and_parts, or_parts, ltb-true, ltb-false, leb-true, lt-ltb, le-ltb, le-leb, lt-leb, eq-eqb, eqb-true, true≢false, false≢true}
 use Rattle.std.proofs.lemmas.List.Sums.{sum_by-cons}
-use Rattle.krb_queue.specs.declared.pause.Pause.{Pause}
-use Rattle.krb_queue.specs.Pause.{begun, longer}
-use Rattle.krb_queue.specs.Laws.{pauses}
-use Rattle.krb_queue.proofs.PauseLemmas.{pauses_from, undoubled}
+use Rattle.krb_engine.specs.declared.pause.Pause.{Pause}
+use Rattle.krb_engine.specs.Pause.{begun, longer}
+use Rattle.krb_engine.specs.QueueLaws.{pauses}
+use Rattle.krb_engine.proofs.PauseLemmas.{pauses_from, undoubled}
 use Rattle.krb_engine.specs.declared.sending.Command.{Command}
 use Rattle.krb_engine.specs.declared.sending.Command.TheVariants.{Publish, Probe, Wake, Idle}
 use Rattle.krb_engine.specs.Limits.{window_most, service_most, again_most, probe_most, room_pause}

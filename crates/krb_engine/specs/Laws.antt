@@ -15,9 +15,9 @@ use Rattle.krb_copies.specs.declared.receipt.Receipt.{Receipt}
 use Rattle.krb_copies.specs.Receipt.{history_below, IsTrue as IsTrueReceipt}
 use Rattle.krb_copies.specs.Copies.{Copy, own_frames, World, new_world, with_state, Event, Hears as CopyHears, Steps as CopySteps, LeadsCopies}
 use Rattle.krb_copies.specs.Laws.{AreItsOwn}
-use Rattle.krb_queue.specs.declared.pause.Pause.{Pause}
-use Rattle.krb_queue.specs.Pause.{begun}
-use Rattle.krb_queue.specs.Laws.{pauses}
+use Rattle.krb_engine.specs.declared.pause.Pause.{Pause}
+use Rattle.krb_engine.specs.Pause.{begun}
+use Rattle.krb_engine.specs.QueueLaws.{pauses}
 use Rattle.krb_engine.specs.declared.sending.Asks.{Asks}
 use Rattle.krb_engine.specs.declared.sending.Command.{Command}
 use Rattle.krb_engine.specs.declared.sending.Command.TheVariants.{Publish, Probe, Wake, Idle}

@@ -11,3 +11,6 @@ pub mod Shards
 pub mod ShardLaws
 pub mod Stream
 pub mod StreamLaws
+pub mod Queue
+pub mod Pause
+pub mod QueueLaws

@@ -1,7 +1,7 @@
 -- What each thing that happens makes of a session's end at a receiver.
 use Rattle.std.specs.Prelude.{◌≡◌, ℕ, ◌+◌, nat_lt, Bool, true, false, List, Option, Some, None, unwrap_or}
 use Rattle.std.specs.Prelude.{if◌then◌else◌}
-use Rattle.krb_queue.specs.Pause.{begun}
+use Rattle.krb_engine.specs.Pause.{begun}
 use Rattle.krb_history.specs.History.{with_frame}
 use Rattle.krb_engine.specs.declared.sending.Asks.{Asks}
 use Rattle.krb_engine.specs.declared.sending.Asks.TheVariants as asks

@@ -1,8 +1,8 @@
 -- What each thing that happens makes of a session's end at a sender.
 use Rattle.std.specs.Prelude.{◌≡◌, ℕ, ◌+◌, ◌-◌, ◌*◌, ◌^◌, ◌<◌, ◌≤◌, ◌==◌, nat_lt, nat_le, ◌&&◌, ◌||◌, not, Bool, true, false}
 use Rattle.std.specs.Prelude.{if◌then◌else◌, min, max, Option, Some, None, is_some, is_none}
-use Rattle.krb_queue.specs.declared.pause.Pause.{Pause}
-use Rattle.krb_queue.specs.Pause.{begun, longer}
+use Rattle.krb_engine.specs.declared.pause.Pause.{Pause}
+use Rattle.krb_engine.specs.Pause.{begun, longer}
 use Rattle.krb_carry.specs.ProgressState.{ProgressState}
 use Rattle.krb_carry.specs.Progress.{Store, Publish, Rewind, Confirm, after, resumed, counted}
 use Rattle.krb_engine.specs.Limits.{window_first, window_most, service_most, again_first, again_most, probe_first, probe_most, ask_first, ask_most, room_pause}

@@ -1,6 +1,6 @@
 -- What contracts see of a session's end at a sender.
 use Rattle.std.specs.Prelude.{ℕ, ◌<◌, ◌≤◌, Bool, Option}
-use Rattle.krb_queue.specs.declared.pause.Pause.{Pause}
+use Rattle.krb_engine.specs.declared.pause.Pause.{Pause}
 use Rattle.krb_carry.specs.ProgressState.{ProgressState}
 use Rattle.krb_engine.specs.declared.sending.Ended.{Ended}
 

@@ -7,7 +7,7 @@ ghost use Rattle.krb_engine.specs.Calls.{AnswersReceipt};
 use crate::Asks;
 use krb_copies::Receipt;
 use krb_history::with_frame;
-use krb_queue::Pause;
+use crate::Pause;
 
 /// For how many milliseconds after a receipt no other one leaves.
 const RECEIPT: u64 = 200;

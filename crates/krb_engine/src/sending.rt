@@ -12,7 +12,7 @@ use crate::SendingParts;
 use krb_carry::Progress;
 use krb_copies::{Finding, Receipt, compare_receipt};
 use krb_history::HISTORY_SIZE;
-use krb_queue::Pause;
+use crate::Pause;
 use std::marker::Model;
 
 /// How many frames of a session are under way, at first and at most.

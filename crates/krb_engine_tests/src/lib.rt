@@ -1,4 +1,4 @@
-//! The tests of [`krb_queue`] and [`krb_engine`]: each public function once, and each function whose
+//! The tests of [`krb_engine`] and [`krb_engine`]: each public function once, and each function whose
 //! contract is a law.
 #![tactic(auto)]
 

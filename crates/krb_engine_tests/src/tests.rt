@@ -7,7 +7,7 @@ use krb_engine::{
     Row, Seen, Sending, SendingParts, Spot, Stands, judge, liveness_laws, receiving_laws,
     sending_laws, shard_laws, stream_laws,
 };
-use krb_queue::{Pause, Queue, pause_laws, queue_laws};
+use krb_engine::{Pause, Queue, pause_laws, queue_laws};
 use std::process::Abort;
 use std::test::Fail;
 

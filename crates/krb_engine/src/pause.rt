@@ -1,8 +1,8 @@
 //! How long to wait for an answer before something is tried again.
 
 ghost use Rattle.std.specs.Prelude.{◌≡◌, ◌↔◌, ◌+◌, ◌*◌, ◌^◌, ◌-◌, ◌<◌, ◌≤◌, IsTrue, min};
-ghost use Rattle.krb_queue.specs.Pause.{IsOver, begun, longer};
-ghost use Rattle.krb_queue.specs.Laws.{PausesDouble, TriesAreRare};
+ghost use Rattle.krb_engine.specs.Pause.{IsOver, begun, longer};
+ghost use Rattle.krb_engine.specs.QueueLaws.{PausesDouble, TriesAreRare};
 
 /// A pause, in milliseconds of a clock that is never set.
 #[derive(Clone, Copy, Debug, PartialEq, Eq)]

@@ -1,8 +1,8 @@
 //! The sessions that have something to do, in the order in which they are served.
 
 ghost use Rattle.std.specs.Prelude.{◌≡◌, ◌++◌, ◌↔◌, ◌≤◌, [], length, vec_len, IfOk, IsNone, IsTrue, IsSome, OnErr, OnOk, option_to_list};
-ghost use Rattle.krb_queue.specs.Queue.{SameMarks, with_session};
-ghost use Rattle.krb_queue.specs.Laws.{EachWaitsOnce, NoneIsLost, NoneOvertakes, ServedInTurn};
+ghost use Rattle.krb_engine.specs.Queue.{SameMarks, with_session};
+ghost use Rattle.krb_engine.specs.QueueLaws.{EachWaitsOnce, NoneIsLost, NoneOvertakes, ServedInTurn};
 
 use std::alloc::{AllocError, Global};
 use std::collections::VecDeque;
@@ -19,7 +19,7 @@ pub struct Queue {
 
 impl Model for Queue {
     ghost use Rattle.std.specs.Prelude.{List, ℕ};
-    ghost use Rattle.krb_queue.specs.Queue.{IsMarked};
+    ghost use Rattle.krb_engine.specs.Queue.{IsMarked};
 
     ghost Value = { List ℕ };
 

@@ -2,9 +2,9 @@
 use Rattle.std.proofs.Common.{◌≡◌, ℕ, zero, suc, ◌+◌, ◌*◌, ◌^◌, ◌<◌, ◌≤◌, min, List, [], ◌∷◌, length, refl, sym, ap, subst, ◌∙◌, inl, inr, arith}
 use Rattle.std.proofs.Math.Nat.{le-mul_of_pos_right, mul-le-mul_right, mul_assoc, mul_comm, min-eq_left, min-eq_right, pow-succ'}
 use Rattle.std.proofs.lemmas.Bool.{cases_lt}
-use Rattle.krb_queue.specs.declared.pause.Pause.{Pause}
-use Rattle.krb_queue.specs.Pause.{IsOver, longer, pause_after}
-use Rattle.krb_queue.specs.Laws.{Tries, pauses, PausesDouble, TriesAreRare}
+use Rattle.krb_engine.specs.declared.pause.Pause.{Pause}
+use Rattle.krb_engine.specs.Pause.{IsOver, longer, pause_after}
+use Rattle.krb_engine.specs.QueueLaws.{Tries, pauses, PausesDouble, TriesAreRare}
 
 -- ---- a pause that is doubled
 

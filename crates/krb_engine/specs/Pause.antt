@@ -1,6 +1,6 @@
 -- Pauses that double.
 use Rattle.std.specs.Prelude.{◌≡◌, ℕ, ◌+◌, ◌*◌, ◌^◌, ◌≤◌, min}
-use Rattle.krb_queue.specs.declared.pause.Pause.{Pause}
+use Rattle.krb_engine.specs.declared.pause.Pause.{Pause}
 
 abbrev pub begun : ℕ → ℕ → Pause
 begun length now = record { since = now; length = length }

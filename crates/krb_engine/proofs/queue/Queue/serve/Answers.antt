@@ -1,7 +1,7 @@
 use Rattle.std.proofs.Common.{◌<◌, length, subst, arith}
-use Rattle.krb_queue.specs.Queue.{IsMarked}
-use Rattle.krb_queue.proofs.QueueLemmas.{has_mark}
-use Rattle.krb_queue.proofs.queue.Queue.serve.Goals as goal
+use Rattle.krb_engine.specs.Queue.{IsMarked}
+use Rattle.krb_engine.proofs.QueueLemmas.{has_mark}
+use Rattle.krb_engine.proofs.queue.Queue.serve.Goals as goal
 
 pub index_mut-requires : goal.index_mut-requires
 index_mut-requires c =

@@ -1,8 +1,8 @@
 -- What the laws state.
 use Rattle.std.specs.Prelude.{◌≡◌, ◌≢◌, ◌⊎◌, ℕ, zero, suc, ◌+◌, ◌<◌, ◌≤◌, true, List, [], ◌∷◌, ◌++◌, length, take, slice_get, Some}
-use Rattle.krb_queue.specs.Queue.{has, with_session, is_distinct}
-use Rattle.krb_queue.specs.declared.pause.Pause.{Pause}
-use Rattle.krb_queue.specs.Pause.{IsOver, longer, pause_after}
+use Rattle.krb_engine.specs.Queue.{has, with_session, is_distinct}
+use Rattle.krb_engine.specs.declared.pause.Pause.{Pause}
+use Rattle.krb_engine.specs.Pause.{IsOver, longer, pause_after}
 
 -- ---- turns
 

@@ -3,8 +3,8 @@ use Rattle.std.proofs.Common.{◌≡◌, ◌≢◌, ◌⊎◌, ℕ, zero, suc, �
 use Rattle.std.proofs.lemmas.Bool.{and_parts, or_parts, or_cases, or_left, or_right, or_from, and_from, not-true, not_from_false, false≢true, true≢false, cases_Bool, cases_eq, eq-eqb, ne_eqb, eqb-false}
 use Rattle.std.proofs.lemmas.List.{get_or_past, take-take, take-append-le, take_all}
 use Rattle.std.proofs.lemmas.List.Folds.{list_any-append}
-use Rattle.krb_queue.specs.Queue.{has, with_session, is_distinct, IsMarked}
-use Rattle.krb_queue.specs.Laws.{Turn, Ready, Serve, without_first, first_of, after_turn, after_turns, served, services, ServedInTurn, EachWaitsOnce, NoneOvertakes, NoneIsLost}
+use Rattle.krb_engine.specs.Queue.{has, with_session, is_distinct, IsMarked}
+use Rattle.krb_engine.specs.QueueLaws.{Turn, Ready, Serve, without_first, first_of, after_turn, after_turns, served, services, ServedInTurn, EachWaitsOnce, NoneOvertakes, NoneIsLost}
 
 -- ---- one session more, or less
 

@@ -1,7 +1,7 @@
 use Rattle.std.proofs.Common.{◌≡◌, ◌<◌, ◌∙◌, Bool, true, false, ℕ, List, set, get_or, length, subst, sym, arith}
-use Rattle.krb_queue.specs.Queue.{IsMarked}
-use Rattle.krb_queue.proofs.QueueLemmas.{marked_push}
-use Rattle.krb_queue.proofs.queue.Queue.ready.Goals as goal
+use Rattle.krb_engine.specs.Queue.{IsMarked}
+use Rattle.krb_engine.proofs.QueueLemmas.{marked_push}
+use Rattle.krb_engine.proofs.queue.Queue.ready.Goals as goal
 
 pub invariant_of-self-2 : goal.invariant_of-self-2
 invariant_of-self-2 c =

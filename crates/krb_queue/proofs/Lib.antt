@@ -1,2 +1,0 @@
-pub mod QueueLemmas
-pub mod PauseLemmas

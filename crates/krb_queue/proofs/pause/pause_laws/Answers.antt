@@ -1,8 +1,0 @@
-use Rattle.krb_queue.proofs.PauseLemmas.{pauses_double, tries_are_rare}
-use Rattle.krb_queue.proofs.pause.pause_laws.Goals as goal
-
-pub returns : goal.returns
-returns c = record {
-  double = pauses_double;
-  rare = tries_are_rare;
-}

@@ -1,3 +1,0 @@
-pub mod Queue
-pub mod Pause
-pub mod Laws
