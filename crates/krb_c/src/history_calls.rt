@@ -1,9 +1,9 @@
 //! What C calls of a history. It is bytes of the caller's, so it has no handle.
 
 ghost use Rattle.std.specs.Prelude.{◌≡◌};
-ghost use Rattle.krb_history.specs.History.{with_frame};
+ghost use Rattle.krb_carry.specs.History.{with_frame};
 
-use krb_history::{HISTORY_SIZE, with_frame};
+use krb_carry::{HISTORY_SIZE, with_frame};
 
 /// Adds a frame that took effect to the history of its session, whose zeros are no frame. It always
 /// answers 0.

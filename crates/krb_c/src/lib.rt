@@ -7,7 +7,7 @@
 //! ([`krb_carry::Progress`]) and a window ([`krb_window::Window`]) have no handle: they are numbers of
 //! the caller's. So is all that both ends of a
 //! carrier keep but the queue (krb_engine, over the structs of krb_carrier_structs). Nor has the history of
-//! a session ([`krb_history::with_frame`]) a handle, which is bytes of the caller's.
+//! a session ([`krb_carry::with_frame`]) a handle, which is bytes of the caller's.
 #![tactic(auto)]
 
 mod field_calls;

@@ -1,6 +1,6 @@
 -- What the calls say to C whose answer is a choice.
 use Rattle.std.specs.Prelude.{◌≡◌, ℕ, List, Option, Some}
-use Rattle.krb_copies.specs.declared.receipt.Receipt.{Receipt}
+use Rattle.krb_carry.specs.declared.receipt.Receipt.{Receipt}
 use Rattle.krb_engine.specs.declared.sending.Asks.{Asks}
 use Rattle.krb_engine.specs.declared.sending.Command.{Command}
 use Rattle.krb_engine.specs.declared.sending.Heard.{Heard}

@@ -1,6 +1,6 @@
 -- A receipt of C's.
 use Rattle.std.specs.Prelude.{Option, Some, None}
-use Rattle.krb_copies.specs.declared.receipt.Receipt.{Receipt}
+use Rattle.krb_carry.specs.declared.receipt.Receipt.{Receipt}
 use Rattle.krb_engine.specs.declared.sending.Asks.{Asks}
 use Rattle.krb_carrier_structs.specs.declared.receipt.KrbReceipt.{KrbReceipt}
 use Rattle.krb_carrier_structs.specs.Numbers.{told_asks}

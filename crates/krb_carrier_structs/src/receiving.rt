@@ -5,9 +5,9 @@ ghost use Rattle.krb_carrier_structs.specs.Receiving.{IsReceiving, TellsReceivin
 
 use crate::numbers::{asks_of, number_of_owed};
 use crate::pause::KrbPause;
-use krb_copies::Receipt;
+use krb_carry::Receipt;
 use krb_engine::{Receiving, Row, Seen};
-use krb_history::HISTORY_SIZE;
+use krb_carry::HISTORY_SIZE;
 
 /// What a store has of a session.
 #[repr(C)]

@@ -6,3 +6,9 @@ pub mod PublishedLemmas
 pub mod OutboxLemmas
 pub mod TwiceLemmas
 pub mod DeliveryLemmas
+mod LawLemmas
+pub mod CopyLemmas
+pub mod ClaimLemmas
+pub mod TextLemmas
+pub mod ForkLemmas
+pub mod ExampleLemmas

@@ -5,3 +5,8 @@ pub mod Progress
 pub mod Reading
 pub mod Outbox
 pub mod Laws
+pub mod History
+pub mod HistoryLaws
+pub mod Receipt
+pub mod Copies
+pub mod CopiesLaws

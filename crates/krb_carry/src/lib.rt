@@ -16,12 +16,51 @@
 //! All of these stand on what krb_peers claims of any frames
 //! ([`frames_laws`](krb_peers::frames_laws)): a session has one record under each number, whoever
 //! seals it, and a receiver takes whatever comes.
+//!
+//! The history of a session: one digest of the frames that took effect, in their order.
+//!
+//! Numbers don't tell two senders apart: an outbox that was restored or copied seals other frames under
+//! numbers that were used. The digest does. A receiver stores it beside the number that it demands, and
+//! says it in its receipts; a sender compares it with that of the frames that it keeps.
+//!
+//! ```text
+//! history = with_frame(&history, frame);   // of a frame that takes effect; zeros where there is none
+//! ```
+//!
+//! [`histories_laws`] says what a digest tells.
+//!
+//! An outbox that is restored or copied, and what a receipt lets each copy do.
+//!
+//! krb_carry speaks of one outbox. A file can be restored from an older copy, and a copy of it can be used
+//! on another machine: then two senders seal other frames under the same numbers, and only one of them
+//! takes effect under each. A receipt says which by a digest of all that took effect (krb_carry).
+//! A sender compares it with the digest of its own frames, and takes texts for delivered only where both
+//! are the same:
+//!
+//! ```text
+//! let own = own_history(&done.history, frames);   // its frames from done.number to receipt.number
+//! match compare_receipt(done.number, next, &own, &receipt) {
+//!     Finding::Repeat => {}                       // it says nothing new
+//!     Finding::Delivered => done = receipt,       // all below its number took effect
+//!     Finding::Older | Finding::Forked => ..      // the session is stopped
+//! }
+//! ```
+//!
+//! [`copies_laws`] say what follows.
 #![tactic(auto)]
 
+mod copies_laws;
+mod history;
+mod laws;
 mod outbox;
 mod progress;
+mod receipt;
 mod store;
 
+pub use copies_laws::copies_laws;
+pub use history::{HISTORY_SIZE, TAG_SIZE, with_frame};
+pub use laws::histories_laws;
 pub use outbox::{delivery_laws, outbox_laws};
 pub use progress::{Progress, progress_laws};
+pub use receipt::{Finding, Receipt, compare_receipt, own_history};
 pub use store::store_laws;

@@ -5,10 +5,10 @@ use Rattle.std.proofs.lemmas.Bool.{cases_lt, and_parts, or_parts, ltb-true, ltb-
 use Rattle.krb_engine.specs.declared.pause.Pause.{Pause}
 use Rattle.krb_engine.specs.Pause.{begun}
 use Rattle.krb_carry.specs.Progress.{resumed}
-use Rattle.krb_copies.specs.declared.receipt.Finding.{Finding}
-use Rattle.krb_copies.specs.declared.receipt.Finding.TheVariants.{Repeat, Delivered, Older, Forked}
-use Rattle.krb_copies.specs.declared.receipt.Receipt.{Receipt}
-use Rattle.krb_copies.specs.Receipt.{Finds}
+use Rattle.krb_carry.specs.declared.receipt.Finding.{Finding}
+use Rattle.krb_carry.specs.declared.receipt.Finding.TheVariants.{Repeat, Delivered, Older, Forked}
+use Rattle.krb_carry.specs.declared.receipt.Receipt.{Receipt}
+use Rattle.krb_carry.specs.Receipt.{Finds}
 use Rattle.krb_engine.specs.declared.sending.Asks.{Asks}
 use Rattle.krb_engine.specs.declared.sending.Asks.TheVariants as asks
 use Rattle.krb_engine.specs.declared.sending.Command.{Command}

@@ -15,14 +15,14 @@ use Rattle.krb_carry.specs.Outbox.{Outbox, new_outbox, Act, IsAct, LeadsOutbox, 
 use Rattle.krb_carry.specs.Store.{Stored, new_session, Leads, IsAfter, IsReceipt}
 use Rattle.krb_carry.proofs.OutboxLemmas.{outbox_sound, sound_records, length-sealed_in, length-records, texts_are}
 use Rattle.krb_carry.proofs.StoreLemmas.{first_take_effect, number_is}
-use Rattle.krb_copies.specs.declared.receipt.Finding.{Finding}
-use Rattle.krb_copies.specs.declared.receipt.Finding.TheVariants.{Repeat, Delivered, Older, Forked}
-use Rattle.krb_copies.specs.declared.receipt.Receipt.{Receipt}
-use Rattle.krb_copies.specs.Receipt.{history_below, Finds}
-use Rattle.krb_copies.specs.Copies.{Copy, own_frames, stopped, World, new_world, with_state, after_finding, Event, Hears as CopyHears, Steps as CopySteps, LeadsCopies}
-use Rattle.krb_copies.specs.Laws.{AreItsOwn, DeliveredTookEffect}
-use Rattle.krb_copies.proofs.CopyLemmas.{all_at, slice_get-set}
-use Rattle.krb_history.specs.Laws.{Collision}
+use Rattle.krb_carry.specs.declared.receipt.Finding.{Finding}
+use Rattle.krb_carry.specs.declared.receipt.Finding.TheVariants.{Repeat, Delivered, Older, Forked}
+use Rattle.krb_carry.specs.declared.receipt.Receipt.{Receipt}
+use Rattle.krb_carry.specs.Receipt.{history_below, Finds}
+use Rattle.krb_carry.specs.Copies.{Copy, own_frames, stopped, World, new_world, with_state, after_finding, Event, Hears as CopyHears, Steps as CopySteps, LeadsCopies}
+use Rattle.krb_carry.specs.CopiesLaws.{AreItsOwn, DeliveredTookEffect}
+use Rattle.krb_carry.proofs.CopyLemmas.{all_at, slice_get-set}
+use Rattle.krb_carry.specs.HistoryLaws.{Collision}
 use Rattle.krb_engine.specs.declared.sending.Asks.{Asks}
 use Rattle.krb_engine.specs.declared.sending.Heard.{Heard}
 use Rattle.krb_engine.specs.SendingState.{SendingState}
@@ -52,7 +52,7 @@ delivers_by_receipts sealer acts outbox each leads state attempts stored tries l
 
 -- ---- a copy
 
--- only what krb_copies' finding is changes what is done, and whether it is stopped
+-- only what krb_carry' finding is changes what is done, and whether it is stopped
 heeded_done : (old : SendingState) (number : ℕ) (it : Asks) (now : ℕ) → (heeded old number it now).done ≡ old.done
 heeded_done old number it now = by_test (is_asked old number it now)
   where

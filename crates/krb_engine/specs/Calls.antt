@@ -1,8 +1,8 @@
 -- What the calls of a session's ends answer.
 use Rattle.std.specs.Prelude.{◌≡◌, ◌⊎◌, ℕ, ◌+◌, ◌<◌, true, false, List, Option, Some, None, is_some}
-use Rattle.krb_copies.specs.declared.receipt.Finding.{Finding}
-use Rattle.krb_copies.specs.declared.receipt.Receipt.{Receipt}
-use Rattle.krb_copies.specs.Receipt.{Finds}
+use Rattle.krb_carry.specs.declared.receipt.Finding.{Finding}
+use Rattle.krb_carry.specs.declared.receipt.Receipt.{Receipt}
+use Rattle.krb_carry.specs.Receipt.{Finds}
 use Rattle.krb_engine.specs.declared.sending.Asks.{Asks}
 use Rattle.krb_engine.specs.declared.sending.Command.{Command}
 use Rattle.krb_engine.specs.declared.sending.Command.TheVariants.{Publish, Probe, Wake, Idle}
@@ -14,7 +14,7 @@ use Rattle.krb_engine.specs.SendingState.{SendingState}
 use Rattle.krb_engine.specs.Sending.{is_over, found, heard_of, heeded, is_settled, batch, is_free, published, is_unanswered, has_opening, probed, wake_time}
 
 -- A receipt comes, and `own` is the digest of the sender's own frames below its number. A session that is
--- stopped hears nothing. Of any other, what follows is what follows of krb_copies' finding; and the
+-- stopped hears nothing. Of any other, what follows is what follows of krb_carry' finding; and the
 -- receiver is heeded, if it asks for the first frame that isn't done then.
 abbrev pub Hears : SendingState → List ℕ → Receipt → Asks → ℕ → Heard → SendingState → Type 0
 Hears old own receipt it now heard new =

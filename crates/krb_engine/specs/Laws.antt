@@ -10,11 +10,11 @@ use Rattle.krb_carry.specs.Progress.{Counts, Happening, Confirm, after_all, resu
 use Rattle.krb_carry.specs.Reading.{Reading, StoredShard, IsReading, LeadsReading}
 use Rattle.krb_carry.specs.Shard.{Item}
 use Rattle.krb_carry.specs.Store.{Stored, new_session, Leads, IsReceipt}
-use Rattle.krb_history.specs.Laws.{Collision}
-use Rattle.krb_copies.specs.declared.receipt.Receipt.{Receipt}
-use Rattle.krb_copies.specs.Receipt.{history_below, IsTrue as IsTrueReceipt}
-use Rattle.krb_copies.specs.Copies.{Copy, own_frames, World, new_world, with_state, Event, Hears as CopyHears, Steps as CopySteps, LeadsCopies}
-use Rattle.krb_copies.specs.Laws.{AreItsOwn}
+use Rattle.krb_carry.specs.HistoryLaws.{Collision}
+use Rattle.krb_carry.specs.declared.receipt.Receipt.{Receipt}
+use Rattle.krb_carry.specs.Receipt.{history_below, IsTrue as IsTrueReceipt}
+use Rattle.krb_carry.specs.Copies.{Copy, own_frames, World, new_world, with_state, Event, Hears as CopyHears, Steps as CopySteps, LeadsCopies}
+use Rattle.krb_carry.specs.CopiesLaws.{AreItsOwn}
 use Rattle.krb_engine.specs.declared.pause.Pause.{Pause}
 use Rattle.krb_engine.specs.Pause.{begun}
 use Rattle.krb_engine.specs.QueueLaws.{pauses}
@@ -142,7 +142,7 @@ DeliversByReceipts = OfOutboxes (λ sealer outbox.
     → outbox.waiting ≡ [] → state.done ≡ outbox.next
     → stored.effects ≡ texts_put outbox.inserted)
 
--- the end of a copy of an outbox, in the words of krb_copies
+-- the end of a copy of an outbox, in the words of krb_carry
 pub record IsEndOf (copy : Copy) (state : SendingState) : Type 0 where
   pub next : state.progress.next ≡ copy.outbox.next
   pub done : state.done ≡ copy.done
@@ -152,7 +152,7 @@ abbrev pub copy_of : Outbox → SendingState → Copy
 copy_of outbox state =
     record { outbox = outbox; done = state.done; is_stopped = is_some state.ended }
 
--- What it hears is what a copy of krb_copies hears: a true receipt, and `own` is the digest of the copy's
+-- What it hears is what a copy of krb_carry hears: a true receipt, and `own` is the digest of the copy's
 -- own frames below its number.
 abbrev pub HearsAsACopy : Type 0
 HearsAsACopy =

@@ -1,6 +1,6 @@
 -- A session's end gets on where the carrier is good for a moment, whatever happened before.
 use Rattle.std.specs.Prelude.{◌≡◌, ◌≢◌, ◌⊎◌, ℕ, ◌+◌, ◌<◌, ◌≤◌, ◌==◌, nat_lt, nat_le, ◌&&◌, if◌then◌else◌, true, List, [], ◌∷◌, length, None, is_some}
-use Rattle.krb_copies.specs.declared.receipt.Receipt.{Receipt}
+use Rattle.krb_carry.specs.declared.receipt.Receipt.{Receipt}
 use Rattle.krb_engine.specs.declared.sending.Asks.{Asks}
 use Rattle.krb_engine.specs.declared.sending.Asks.TheVariants as asks
 use Rattle.krb_engine.specs.declared.sending.Command.{Command}

@@ -2,7 +2,7 @@
 use Rattle.std.specs.Prelude.{◌≡◌, ℕ, ◌+◌, nat_lt, Bool, true, false, List, Option, Some, None, unwrap_or}
 use Rattle.std.specs.Prelude.{if◌then◌else◌}
 use Rattle.krb_engine.specs.Pause.{begun}
-use Rattle.krb_history.specs.History.{with_frame}
+use Rattle.krb_carry.specs.History.{with_frame}
 use Rattle.krb_engine.specs.declared.sending.Asks.{Asks}
 use Rattle.krb_engine.specs.declared.sending.Asks.TheVariants as asks
 use Rattle.krb_engine.specs.declared.receiving.Outcome.{Outcome}

@@ -1,7 +1,7 @@
 -- What the laws of a session's end at a receiver state.
 use Rattle.std.specs.Prelude.{◌≡◌, ◌⊎◌, ◌↔◌, ℕ, ◌+◌, ◌<◌, ◌≤◌, Bool, true, false, List, [], ◌∷◌, ◌++◌, length, All, Option, Some, None, is_some}
-use Rattle.krb_copies.specs.declared.receipt.Receipt.{Receipt}
-use Rattle.krb_copies.specs.Receipt.{history_of, IsTrue}
+use Rattle.krb_carry.specs.declared.receipt.Receipt.{Receipt}
+use Rattle.krb_carry.specs.Receipt.{history_of, IsTrue}
 use Rattle.krb_engine.specs.declared.sending.Asks.{Asks}
 use Rattle.krb_engine.specs.declared.sending.Asks.TheVariants as asks
 use Rattle.krb_engine.specs.declared.receiving.Outcome.{Outcome}

@@ -6,8 +6,8 @@ use Rattle.krb_engine.specs.Pause.{begun, longer}
 use Rattle.krb_carry.specs.ProgressState.{ProgressState}
 use Rattle.krb_carry.specs.Progress.{Store, Publish, Rewind, Confirm, after, resumed, counted}
 use Rattle.krb_engine.specs.Limits.{window_first, window_most, service_most, again_first, again_most, probe_first, probe_most, ask_first, ask_most, room_pause}
-use Rattle.krb_copies.specs.declared.receipt.Finding.{Finding}
-use Rattle.krb_copies.specs.declared.receipt.Finding.TheVariants as findings
+use Rattle.krb_carry.specs.declared.receipt.Finding.{Finding}
+use Rattle.krb_carry.specs.declared.receipt.Finding.TheVariants as findings
 use Rattle.krb_engine.specs.declared.sending.Ended.{Ended}
 use Rattle.krb_engine.specs.declared.sending.Ended.TheVariants as ends
 use Rattle.krb_engine.specs.declared.sending.Stands.{Stands}
@@ -111,7 +111,7 @@ abbrev pub stopped : SendingState → Ended → SendingState
 stopped state why =
     record state { progress = after state.progress Rewind; ended = Some why }
 
--- what follows of what a receipt is, by krb_copies
+-- what follows of what a receipt is, by krb_carry
 abbrev pub found : SendingState → ℕ → ℕ → Finding → SendingState
 found state number now findings.Repeat = state
 found state number now findings.Delivered = settled state number now

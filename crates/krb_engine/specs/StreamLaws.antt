@@ -6,10 +6,10 @@ use Rattle.krb_seal.specs.Sealer.{SealerState}
 use Rattle.krb_peers.specs.Attempt.{Attempt, IsAttempt}
 use Rattle.krb_carry.specs.Outbox.{Outbox, new_outbox, Act, IsAct, LeadsOutbox, stored_records, texts_put}
 use Rattle.krb_carry.specs.Store.{Stored, new_session, Leads, IsReceipt}
-use Rattle.krb_history.specs.History.{tag}
-use Rattle.krb_history.specs.Laws.{Collision}
-use Rattle.krb_copies.specs.declared.receipt.Receipt.{Receipt}
-use Rattle.krb_copies.specs.Receipt.{history_of}
+use Rattle.krb_carry.specs.History.{tag}
+use Rattle.krb_carry.specs.HistoryLaws.{Collision}
+use Rattle.krb_carry.specs.declared.receipt.Receipt.{Receipt}
+use Rattle.krb_carry.specs.Receipt.{history_of}
 use Rattle.krb_engine.specs.declared.stream.Head.{Head}
 use Rattle.krb_engine.specs.declared.stream.Opening.{Opening}
 use Rattle.krb_engine.specs.declared.stream.Judged.TheVariants.{Begins}

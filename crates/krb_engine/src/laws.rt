@@ -5,7 +5,7 @@ ghost use Rattle.krb_engine.specs.ReceivingLaws.{AcceptsInTurn, ClosesAreStored,
 ghost use Rattle.krb_engine.specs.Liveness.{AllIsDone, AsksAreHeeded, GoodRoundsHappen, IdleIsDone, MoreMayBeSealed, RoundsDeliver, StoppedHoldNoRoom, WakesAreToCome};
 
 use krb_carry::{delivery_laws, progress_laws};
-use krb_copies::copies_laws;
+use krb_carry::copies_laws;
 
 /// What holds of a session's end, whatever happens to it and whenever it is served.
 ///
@@ -18,7 +18,7 @@ use krb_copies::copies_laws;
 ///
 /// **Receipts.** Where they are true, all that is put in took effect, each text once, once all is done and
 /// nothing waits, whatever carriers did (`receipts`). What a receipt does is what it does to a copy of an
-/// outbox in [`copies_laws`](krb_copies::copies_laws) (`hears`). So of what it takes for done its own
+/// outbox in [`copies_laws`](krb_carry::copies_laws) (`hears`). So of what it takes for done its own
 /// frames took effect, also where an outbox was restored or copied (`deletes`). It seals one number after
 /// another, as the outbox of that copy, so none twice (`seals`).
 ///
@@ -76,7 +76,7 @@ pub fn liveness_laws()
 /// What it has for stored and for the transaction under way is what the store has and would have (`store`):
 /// the number that is demanded, and the digest of all frames that took effect. So each receipt that leaves
 /// is true of what is stored then (`receipts`), and none leaves while a transaction is under way; it stays
-/// true, by [`copies_laws`](krb_copies::copies_laws). A frame is accepted in its turn alone, and none after
+/// true, by [`copies_laws`](krb_carry::copies_laws). A frame is accepted in its turn alone, and none after
 /// the close (`accepts`); the number at which a frame opens says why it isn't accepted (`refuses`).
 ///
 /// Each frame of the session is owed a receipt (`owes`), which leaves once the transaction took effect

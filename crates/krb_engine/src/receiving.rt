@@ -5,8 +5,8 @@ ghost use Rattle.krb_engine.specs.Receiving.{after_frame, dropped, has_row, outc
 ghost use Rattle.krb_engine.specs.Calls.{AnswersReceipt};
 
 use crate::Asks;
-use krb_copies::Receipt;
-use krb_history::with_frame;
+use krb_carry::Receipt;
+use krb_carry::with_frame;
 use crate::Pause;
 
 /// For how many milliseconds after a receipt no other one leaves.

@@ -2,7 +2,7 @@
 
 ghost use Rattle.std.specs.Prelude.{◌≡◌, ◌↔◌, ◌+◌, ◌-◌, ◌<◌, ◌≤◌, ◌^◌, IfSome, IsSome, IsTrue, if◌then◌else◌, ◌≢◌};
 ghost use Rattle.krb_carry.specs.Progress.{Counts};
-ghost use Rattle.krb_copies.specs.Receipt.{Finds};
+ghost use Rattle.krb_carry.specs.Receipt.{Finds};
 ghost use Rattle.krb_engine.specs.Sending.{ask_end, batch, begins, confirmed, found, heard_of, heeded, is_asked, is_free, is_settled, is_unanswered, listed, loaded, looked, may_ask, next_ask, probed, published, reconnected, recovery_room, sealed, sealing_room, settled, stands, stopped, wake_time, wider};
 ghost use Rattle.krb_engine.specs.Parts.{end_of_parts};
 ghost use Rattle.krb_engine.specs.SendingState.{IsEnd};
@@ -10,8 +10,8 @@ ghost use Rattle.krb_engine.specs.Calls.{Hears, IsProbe, Serves};
 
 use crate::SendingParts;
 use krb_carry::Progress;
-use krb_copies::{Finding, Receipt, compare_receipt};
-use krb_history::HISTORY_SIZE;
+use krb_carry::{Finding, Receipt, compare_receipt};
+use krb_carry::HISTORY_SIZE;
 use crate::Pause;
 use std::marker::Model;
 

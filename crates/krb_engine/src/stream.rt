@@ -5,8 +5,8 @@ ghost use Rattle.krb_engine.specs.Stream.{judged};
 ghost use Rattle.krb_engine.specs.StreamLaws.{BeginsAfterTheClose, FirstOneBegins, OwnHistoryGoesOn, StreamsTakeEffectInOrder, WholeStreamsTakeEffect};
 
 use krb_carry::delivery_laws;
-use krb_copies::Receipt;
-use krb_history::histories_laws;
+use krb_carry::Receipt;
+use krb_carry::histories_laws;
 
 /// The last session of a stream that a store has.
 #[derive(Clone, Copy, Debug, PartialEq, Eq)]
@@ -73,7 +73,7 @@ pub fn judge(head: Option<Head>, opening: &Opening) -> Judged
 /// session and each is done, by receipts (`all`).
 ///
 /// In `order` and `all` each session has one outbox. Where an outbox is restored or copied,
-/// [`copies_laws`](krb_copies::copies_laws) speak of each session, and `own` of where one ends and the next
+/// [`copies_laws`](krb_carry::copies_laws) speak of each session, and `own` of where one ends and the next
 /// begins.
 pub fn stream_laws()
     ensures begins { BeginsAfterTheClose }

@@ -1,7 +1,7 @@
 //! A queue, a pause, a session's end at a sender and at a receiver, openings, and shards: what happens, step by step,
 //! and what each answers. The steps are rows of data, since a long function takes long to prove.
 
-use krb_copies::Receipt;
+use krb_carry::Receipt;
 use krb_engine::{
     Asks, Command, Ended, Flow, Head, Heard, Judged, Opening, Outcome, Read, Reading, Receiving,
     Row, Seen, Sending, SendingParts, Spot, Stands, judge, liveness_laws, receiving_laws,

@@ -3,7 +3,7 @@
 ghost use Rattle.std.specs.Prelude.{◌≡◌, length, IfOk};
 ghost use Rattle.krb_seal.specs.Session.{IsShortAddress};
 
-use krb_copies::{Finding, Receipt, compare_receipt, copies_laws, own_history};
+use krb_carry::{Finding, Receipt, compare_receipt, copies_laws, own_history};
 use krb_der::{Bytes, HostAddress, Moment};
 use krb_peer_laws::{
     calls_in_c_laws, demand_fields_laws, frame_sizes_laws, open_each, open_frame, open_peer,

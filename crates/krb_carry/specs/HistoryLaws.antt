@@ -1,7 +1,7 @@
 -- What a digest says about the frames that it was made of.
 use Rattle.std.specs.Prelude.{◌≡◌, ◌≤◌, ◌⊎◌, ℕ, List, ◌++◌, length, map, take}
 use Rattle.sha1.specs.Sha1.{sha1}
-use Rattle.krb_history.specs.History.{no_history, tag, with_frames}
+use Rattle.krb_carry.specs.History.{no_history, tag, with_frames}
 
 -- Two texts that have one hash: nobody knows any of 32 bytes.
 pub record Collision : Type 0 where

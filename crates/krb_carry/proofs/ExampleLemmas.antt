@@ -10,9 +10,9 @@ use Rattle.krb_seal.specs.Seals.{sealed}
 use Rattle.krb_seal.specs.Sealer.{SealerState}
 use Rattle.krb_seal.proofs.ExistsLemmas.{one_exists}
 use Rattle.krb_peers.specs.Session.{Sealed, SealsAt}
-use Rattle.krb_history.specs.Laws.{OneHistory}
-use Rattle.krb_copies.specs.Laws.{example_sealer, ForkExists}
-use Rattle.krb_copies.proofs.ForkLemmas.{forks_happen}
+use Rattle.krb_carry.specs.HistoryLaws.{OneHistory}
+use Rattle.krb_carry.specs.CopiesLaws.{example_sealer, ForkExists}
+use Rattle.krb_carry.proofs.ForkLemmas.{forks_happen}
 
 -- ---- bytes
 

@@ -8,15 +8,15 @@ use Rattle.krb_record.specs.Record.{FitsLimits}
 use Rattle.krb_seal.specs.Sealer.{SealerState}
 use Rattle.krb_peers.specs.Session.{Sealed, SealsAt, frames_in}
 use Rattle.krb_carry.specs.Outbox.{puts_of, puts_in, Kept, Outbox, new_outbox, Sealing, IsSealing, with_put, with_frames}
-use Rattle.krb_history.specs.History.{no_history, tag, with_frames as with_all}
-use Rattle.krb_history.specs.Laws.{Collision, OneHistory}
-use Rattle.krb_copies.specs.declared.receipt.Finding.TheVariants.{Delivered, Older, Forked}
-use Rattle.krb_copies.specs.declared.receipt.Receipt.{Receipt}
-use Rattle.krb_copies.specs.Receipt.{history_below, IsTrue}
-use Rattle.krb_copies.specs.Copies.{Copy, new_copy, stopped, World, new_world, with_state, LeadsCopies}
-use Rattle.krb_copies.specs.Laws.{delivery, fork, HasFork, TagsMeet, ForksHappen}
-use Rattle.krb_copies.proofs.CopyLemmas.{IsOwn}
-use Rattle.krb_copies.proofs.TextLemmas.{same_record}
+use Rattle.krb_carry.specs.History.{no_history, tag, with_frames as with_all}
+use Rattle.krb_carry.specs.HistoryLaws.{Collision, OneHistory}
+use Rattle.krb_carry.specs.declared.receipt.Finding.TheVariants.{Delivered, Older, Forked}
+use Rattle.krb_carry.specs.declared.receipt.Receipt.{Receipt}
+use Rattle.krb_carry.specs.Receipt.{history_below, IsTrue}
+use Rattle.krb_carry.specs.Copies.{Copy, new_copy, stopped, World, new_world, with_state, LeadsCopies}
+use Rattle.krb_carry.specs.CopiesLaws.{delivery, fork, HasFork, TagsMeet, ForksHappen}
+use Rattle.krb_carry.proofs.CopyLemmas.{IsOwn}
+use Rattle.krb_carry.proofs.TextLemmas.{same_record}
 
 module _ (sealer : SealerState) (one_text other_text : List ℕ) (one other : Sealed)
     (one_is : one.carried ≡ Text one_text) (other_is : other.carried ≡ Text other_text)

@@ -12,13 +12,13 @@ use Rattle.krb_peers.specs.Session.{AreRecords, FitLimits, Sealed, SealsAt, AreS
 use Rattle.krb_peers.specs.Texts.{texts_of_all}
 use Rattle.krb_carry.specs.Outbox.{Kept, Outbox, new_outbox, records_in, sealed_in, stored_records}
 use Rattle.krb_carry.specs.Outbox.{Act, Insert, Seal, IsAct, LeadsOutbox}
-use Rattle.krb_history.specs.History.{tag, with_frames}
-use Rattle.krb_history.specs.Laws.{Collision}
-use Rattle.krb_copies.specs.declared.receipt.Finding.{Finding}
-use Rattle.krb_copies.specs.declared.receipt.Receipt.{Receipt}
-use Rattle.krb_copies.specs.Receipt.{below, history_below, IsTrue, Finds}
-use Rattle.krb_copies.specs.Copies.{Copy, own_frames, stopped, World, new_world}
-use Rattle.krb_copies.specs.Copies.{Event, Does, Restores, Copies, Takes, Hears, IsAbove, Steps, LeadsCopies}
+use Rattle.krb_carry.specs.History.{tag, with_frames}
+use Rattle.krb_carry.specs.HistoryLaws.{Collision}
+use Rattle.krb_carry.specs.declared.receipt.Finding.{Finding}
+use Rattle.krb_carry.specs.declared.receipt.Receipt.{Receipt}
+use Rattle.krb_carry.specs.Receipt.{below, history_below, IsTrue, Finds}
+use Rattle.krb_carry.specs.Copies.{Copy, own_frames, stopped, World, new_world}
+use Rattle.krb_carry.specs.Copies.{Event, Does, Restores, Copies, Takes, Hears, IsAbove, Steps, LeadsCopies}
 
 -- it holds of whatever any events leave
 abbrev pub OfCopies : (SealerState → World → Type 0) → Type 0

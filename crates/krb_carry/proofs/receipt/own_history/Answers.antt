@@ -1,6 +1,6 @@
 use Rattle.std.proofs.Common.{◌≡◌, ℕ, zero, suc, ◌+◌, ◌<◌, List, [], ◌∷◌, map, length, drop, slice_index_or, sym, subst, arith}
-use Rattle.krb_history.specs.History.{with_frame, with_frames}
-use Rattle.krb_copies.proofs.receipt.own_history.Goals as goal
+use Rattle.krb_carry.specs.History.{with_frame, with_frames}
+use Rattle.krb_carry.proofs.receipt.own_history.Goals as goal
 
 -- one frame more is made of what is left
 one_more : {X : Type 0} (bytes : X → List ℕ) (frames : List X) (i : ℕ) (d : X) (history whole : List ℕ) → i < length frames

@@ -1,10 +1,10 @@
 //! What is claimed of an outbox that is restored and copied, over the definitions alone.
 
-ghost use Rattle.krb_copies.specs.Laws.{OneFinding, OneDigestIsEnough, ReceiptsStayTrue};
-ghost use Rattle.krb_copies.specs.Laws.{DeliveredTookEffect, TextsTookEffect, OthersAreStopped, NothingFromThereOn};
-ghost use Rattle.krb_copies.specs.Laws.{EachIsAnOutbox, OneSessionTakesEffect, NoNumberIsUsedAgain, ForksHappen, ForkExists};
+ghost use Rattle.krb_carry.specs.CopiesLaws.{OneFinding, OneDigestIsEnough, ReceiptsStayTrue};
+ghost use Rattle.krb_carry.specs.CopiesLaws.{DeliveredTookEffect, TextsTookEffect, OthersAreStopped, NothingFromThereOn};
+ghost use Rattle.krb_carry.specs.CopiesLaws.{EachIsAnOutbox, OneSessionTakesEffect, NoNumberIsUsedAgain, ForksHappen, ForkExists};
 
-use krb_history::histories_laws;
+use crate::histories_laws;
 
 /// What holds however often an outbox is restored or copied.
 ///
@@ -27,8 +27,8 @@ use krb_history::histories_laws;
 /// is taken for delivered, and a copy and a restored outbox are stopped, whatever two texts they seal
 /// (`happen`), and there are two frames of which this holds, under any key (`example`).
 ///
-/// Each copy is an outbox of which [`outbox_laws`](krb_carry::outbox_laws) speak (`outboxes`). What takes
-/// effect is sealed of the records of one session, so what [`store_laws`](krb_carry::store_laws) claim of
+/// Each copy is an outbox of which [`outbox_laws`](crate::outbox_laws) speak (`outboxes`). What takes
+/// effect is sealed of the records of one session, so what [`store_laws`](crate::store_laws) claim of
 /// a store holds with these records (`session`).
 ///
 /// Without receipts a sender that begins asks the carrier for all frames of the session. It goes on if it

@@ -1,6 +1,6 @@
 //! What a digest tells.
 
-ghost use Rattle.krb_history.specs.Laws.{GoesOn, OneHistory, ReceiptsNameTheHistory};
+ghost use Rattle.krb_carry.specs.HistoryLaws.{GoesOn, OneHistory, ReceiptsNameTheHistory};
 
 /// As many frames that have one digest have the same tags, or two texts that have one SHA-1 are found
 /// (`one`). A digest goes on from that of the frames before (`goes_on`), so each end keeps one digest

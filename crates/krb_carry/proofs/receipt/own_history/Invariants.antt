@@ -1,6 +1,6 @@
 use Rattle.std.proofs.Common.{◌≡◌, map, drop}
-use Rattle.krb_history.specs.History.{with_frames}
-use Rattle.krb_copies.proofs.receipt.own_history.Given as goal
+use Rattle.krb_carry.specs.History.{with_frames}
+use Rattle.krb_carry.proofs.receipt.own_history.Given as goal
 
 -- the rest makes of what was made what all make
 abbrev pub invariant-loop-frame : goal.invariant-loop-frame

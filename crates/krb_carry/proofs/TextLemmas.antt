@@ -16,12 +16,12 @@ use Rattle.krb_seal.proofs.SealedFrames.{nowhere_else, at_its_number}
 use Rattle.krb_peers.specs.Session.{Sealed, frames_in}
 use Rattle.krb_peers.specs.Texts.{texts_of_all}
 use Rattle.krb_carry.specs.Outbox.{sealed_in, records_in, stored_records}
-use Rattle.krb_history.specs.History.{tag}
-use Rattle.krb_history.specs.Laws.{Collision, ReceiptsNameTheHistory}
-use Rattle.krb_copies.specs.Copies.{Copy, World}
-use Rattle.krb_copies.specs.Laws.{AreItsOwn, TagsMeet, TextsTookEffect}
-use Rattle.krb_copies.proofs.CopyLemmas.{all_too, IsSound, IsOwn, own_at, IsSoundWorld, world_sound}
-use Rattle.krb_copies.proofs.ClaimLemmas.{own_done}
+use Rattle.krb_carry.specs.History.{tag}
+use Rattle.krb_carry.specs.HistoryLaws.{Collision, ReceiptsNameTheHistory}
+use Rattle.krb_carry.specs.Copies.{Copy, World}
+use Rattle.krb_carry.specs.CopiesLaws.{AreItsOwn, TagsMeet, TextsTookEffect}
+use Rattle.krb_carry.proofs.CopyLemmas.{all_too, IsSound, IsOwn, own_at, IsSoundWorld, world_sound}
+use Rattle.krb_carry.proofs.ClaimLemmas.{own_done}
 
 -- ---- one frame, one record
 

@@ -12,12 +12,12 @@ use Rattle.krb_seal.specs.Sealer.{SealerState}
 use Rattle.krb_peers.specs.Session.{Sealed, SealsAt, frames_in}
 use Rattle.krb_carry.specs.Outbox.{Kept, numbered, Outbox, new_outbox, sealed_in, records_in, Act, Insert, Seal, IsAct, Acts, LeadsOutbox}
 use Rattle.krb_carry.proofs.OutboxLemmas.{stands_in, first, second, it-numbered, length-sealed_in, outbox_sound}
-use Rattle.krb_copies.specs.declared.receipt.Finding.{Finding}
-use Rattle.krb_copies.specs.declared.receipt.Finding.TheVariants.{Repeat, Delivered, Older, Forked}
-use Rattle.krb_copies.specs.declared.receipt.Receipt.{Receipt}
-use Rattle.krb_copies.specs.Receipt.{history_of, history_below, IsTrue, Finds}
-use Rattle.krb_copies.specs.Copies.{Copy, new_copy, own_frames, stopped, World, new_world, with_state, IsSealedByOne, after_finding, After}
-use Rattle.krb_copies.specs.Copies.{Event, Does, Restores, Copies, Takes, Hears, Begins, Steps, LeadsCopies}
+use Rattle.krb_carry.specs.declared.receipt.Finding.{Finding}
+use Rattle.krb_carry.specs.declared.receipt.Finding.TheVariants.{Repeat, Delivered, Older, Forked}
+use Rattle.krb_carry.specs.declared.receipt.Receipt.{Receipt}
+use Rattle.krb_carry.specs.Receipt.{history_of, history_below, IsTrue, Finds}
+use Rattle.krb_carry.specs.Copies.{Copy, new_copy, own_frames, stopped, World, new_world, with_state, IsSealedByOne, after_finding, After}
+use Rattle.krb_carry.specs.Copies.{Event, Does, Restores, Copies, Takes, Hears, Begins, Steps, LeadsCopies}
 
 -- ---- lists
 

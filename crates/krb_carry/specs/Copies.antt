@@ -7,10 +7,10 @@ use Rattle.krb_seal.specs.Sealer.{SealerState}
 use Rattle.krb_peers.specs.Session.{Sealed, frames_in}
 use Rattle.krb_carry.specs.Outbox.{Kept, Outbox, new_outbox, sealed_in, records_in}
 use Rattle.krb_carry.specs.Outbox.{Act, Insert, Seal, IsAct, Acts}
-use Rattle.krb_copies.specs.declared.receipt.Finding.{Finding}
-use Rattle.krb_copies.specs.declared.receipt.Finding.TheVariants.{Repeat, Delivered, Older, Forked}
-use Rattle.krb_copies.specs.declared.receipt.Receipt.{Receipt}
-use Rattle.krb_copies.specs.Receipt.{history_below, IsTrue, Finds}
+use Rattle.krb_carry.specs.declared.receipt.Finding.{Finding}
+use Rattle.krb_carry.specs.declared.receipt.Finding.TheVariants.{Repeat, Delivered, Older, Forked}
+use Rattle.krb_carry.specs.declared.receipt.Receipt.{Receipt}
+use Rattle.krb_carry.specs.Receipt.{history_below, IsTrue, Finds}
 
 -- ---- a copy
 

@@ -3,8 +3,8 @@ use Rattle.std.proofs.Common.{◌≡◌, ◌≤◌, ℕ, Bool, true, false, List
 use Rattle.std.proofs.lemmas.Slice.Eq.{bytes_eq-Decides}
 use Rattle.std.specs.Str.{bytes_eq}
 use Rattle.sha1.specs.Sha1.{digest_bytes, sha1}
-use Rattle.krb_history.specs.History.{no_history, tag, with_frame, with_frames}
-use Rattle.krb_history.specs.Laws.{Collision, GoesOn, OneHistory, ReceiptsNameTheHistory}
+use Rattle.krb_carry.specs.History.{no_history, tag, with_frame, with_frames}
+use Rattle.krb_carry.specs.HistoryLaws.{Collision, GoesOn, OneHistory, ReceiptsNameTheHistory}
 
 length-sha1 : (m : List ℕ) → length (sha1 m) ≡ 20
 unfolding sha1 digest_bytes

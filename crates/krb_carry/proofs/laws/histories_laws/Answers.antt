@@ -1,5 +1,5 @@
-use Rattle.krb_history.proofs.LawLemmas.{goes_on, one_history, receipts_name_the_history}
-use Rattle.krb_history.proofs.laws.histories_laws.Goals as goal
+use Rattle.krb_carry.proofs.LawLemmas.{goes_on, one_history, receipts_name_the_history}
+use Rattle.krb_carry.proofs.laws.histories_laws.Goals as goal
 
 pub returns-clause-one : goal.returns-clause-one
 returns-clause-one c = one_history

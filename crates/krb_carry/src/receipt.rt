@@ -1,10 +1,10 @@
 //! What a sender does about a receipt.
 
 ghost use Rattle.std.specs.Prelude.{◌≡◌, map};
-ghost use Rattle.krb_history.specs.History.{with_frames};
-ghost use Rattle.krb_copies.specs.Receipt.{Finds};
+ghost use Rattle.krb_carry.specs.History.{with_frames};
+ghost use Rattle.krb_carry.specs.Receipt.{Finds};
 
-use krb_history::{HISTORY_SIZE, with_frame};
+use crate::{HISTORY_SIZE, with_frame};
 
 /// What a receiver says of a session.
 #[derive(Clone, Copy, Debug, PartialEq, Eq)]

@@ -1,7 +1,7 @@
 //! The digest.
 
 ghost use Rattle.std.specs.Prelude.{◌≡◌};
-ghost use Rattle.krb_history.specs.History.{history_size, tag, tag_size, with_frame};
+ghost use Rattle.krb_carry.specs.History.{history_size, tag, tag_size, with_frame};
 
 use sha1::Sha1;
 

@@ -1,8 +1,8 @@
-use Rattle.krb_copies.proofs.ClaimLemmas.{one_finding, one_digest, stay_true, delivered_took_effect, nothing_from_there_on, others_are_stopped, each_is_an_outbox, one_session, no_number_again}
-use Rattle.krb_copies.proofs.TextLemmas.{texts_took_effect}
-use Rattle.krb_copies.proofs.ForkLemmas.{forks_happen}
-use Rattle.krb_copies.proofs.ExampleLemmas.{fork_exists}
-use Rattle.krb_copies.proofs.laws.copies_laws.Goals as goal
+use Rattle.krb_carry.proofs.ClaimLemmas.{one_finding, one_digest, stay_true, delivered_took_effect, nothing_from_there_on, others_are_stopped, each_is_an_outbox, one_session, no_number_again}
+use Rattle.krb_carry.proofs.TextLemmas.{texts_took_effect}
+use Rattle.krb_carry.proofs.ForkLemmas.{forks_happen}
+use Rattle.krb_carry.proofs.ExampleLemmas.{fork_exists}
+use Rattle.krb_carry.proofs.copies_laws.copies_laws.Goals as goal
 
 pub returns : goal.returns
 returns c =

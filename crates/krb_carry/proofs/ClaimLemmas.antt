@@ -12,15 +12,15 @@ use Rattle.krb_peers.proofs.FrameLemmas.{all_readable}
 use Rattle.krb_peers.specs.Session.{Sealed, FitLimits, frames_in}
 use Rattle.krb_carry.specs.Outbox.{Kept, numbered, Outbox, new_outbox, records_in, sealed_in, Act, Insert, Seal, IsAct, Acts, LeadsOutbox}
 use Rattle.krb_carry.proofs.OutboxLemmas.{stands_in, first, second, sealed_record, length-records}
-use Rattle.krb_history.specs.History.{tag, no_history, with_frames}
-use Rattle.krb_history.specs.Laws.{Collision, GoesOn, ReceiptsNameTheHistory}
-use Rattle.krb_copies.specs.declared.receipt.Finding.{Finding}
-use Rattle.krb_copies.specs.declared.receipt.Finding.TheVariants.{Repeat, Delivered, Older, Forked}
-use Rattle.krb_copies.specs.declared.receipt.Receipt.{Receipt}
-use Rattle.krb_copies.specs.Receipt.{below, history_of, history_below, IsTrue, Finds}
-use Rattle.krb_copies.specs.Copies.{Copy, own_frames, stopped, World, with_state, after_finding}
-use Rattle.krb_copies.specs.Laws.{OneFinding, OneDigestIsEnough, ReceiptsStayTrue, AreItsOwn, DeliveredTookEffect, NothingFromThereOn, OthersAreStopped, EachIsAnOutbox, OneSessionTakesEffect, NoNumberIsUsedAgain}
-use Rattle.krb_copies.proofs.CopyLemmas.{more_history, all_at, all_too, contains_at, slice_get-set, length-frames, IsSound, next_is, in_numbered, IsSoundWorld, world_sound}
+use Rattle.krb_carry.specs.History.{tag, no_history, with_frames}
+use Rattle.krb_carry.specs.HistoryLaws.{Collision, GoesOn, ReceiptsNameTheHistory}
+use Rattle.krb_carry.specs.declared.receipt.Finding.{Finding}
+use Rattle.krb_carry.specs.declared.receipt.Finding.TheVariants.{Repeat, Delivered, Older, Forked}
+use Rattle.krb_carry.specs.declared.receipt.Receipt.{Receipt}
+use Rattle.krb_carry.specs.Receipt.{below, history_of, history_below, IsTrue, Finds}
+use Rattle.krb_carry.specs.Copies.{Copy, own_frames, stopped, World, with_state, after_finding}
+use Rattle.krb_carry.specs.CopiesLaws.{OneFinding, OneDigestIsEnough, ReceiptsStayTrue, AreItsOwn, DeliveredTookEffect, NothingFromThereOn, OthersAreStopped, EachIsAnOutbox, OneSessionTakesEffect, NoNumberIsUsedAgain}
+use Rattle.krb_carry.proofs.CopyLemmas.{more_history, all_at, all_too, contains_at, slice_get-set, length-frames, IsSound, next_is, in_numbered, IsSoundWorld, world_sound}
 
 -- ---- a receipt
 

@@ -1,9 +1,9 @@
 -- What a receipt says, and what a sender finds by it.
 use Rattle.std.specs.Prelude.{◌≡◌, ◌≢◌, ℕ, ◌-◌, ◌<◌, ◌≤◌, ◌+◌, List, length, take}
-use Rattle.krb_history.specs.History.{no_history, with_frames}
-use Rattle.krb_copies.specs.declared.receipt.Finding.{Finding}
-use Rattle.krb_copies.specs.declared.receipt.Finding.TheVariants.{Repeat, Delivered, Older, Forked}
-use Rattle.krb_copies.specs.declared.receipt.Receipt.{Receipt}
+use Rattle.krb_carry.specs.History.{no_history, with_frames}
+use Rattle.krb_carry.specs.declared.receipt.Finding.{Finding}
+use Rattle.krb_carry.specs.declared.receipt.Finding.TheVariants.{Repeat, Delivered, Older, Forked}
+use Rattle.krb_carry.specs.declared.receipt.Receipt.{Receipt}
 
 -- the frames below a number, of these, which begin at the first number
 abbrev pub below : ℕ → List (List ℕ) → ℕ → List (List ℕ)

@@ -1,3 +1,0 @@
-pub mod Receipt
-pub mod Copies
-pub mod Laws
