@@ -1,4 +1,4 @@
-"""The SQL texts of carrier/ beside the statements of krb_tables' model: what each compares, sets and
+"""The SQL texts of carrier/ beside the statements of krb_laws' model: what each compares, sets and
 inserts, and whether its count is looked at. statements.toml has the statements."""
 import dataclasses
 import os
@@ -11,7 +11,7 @@ from lib.build import building
 import sources
 
 SOURCES = os.path.join(building.TOP, "carrier")
-SPECS = os.path.join(building.TOP, "crates", "krb_tables", "specs")
+SPECS = os.path.join(building.TOP, "crates", "krb_laws", "specs")
 TABLE = os.path.join(os.path.dirname(os.path.abspath(__file__)), "statements.toml")
 NO_STATEMENTS = ("triggers", "outside")
 
@@ -39,7 +39,7 @@ class Text(typing.TypedDict, total=False):
 
 
 class Model(typing.TypedDict, total=False):
-    """What stands of a statement in the definitions of krb_tables."""
+    """What stands of a statement in the definitions of krb_laws."""
     file: str
     compares: str
     row: str

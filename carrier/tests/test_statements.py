@@ -1,4 +1,4 @@
-"""Each text of SQL in carrier/ that changes a table of krb_tables' model is one of its statements
+"""Each text of SQL in carrier/ that changes a table of krb_laws' model is one of its statements
 (statements.toml): it compares, sets and inserts the same columns, and its count is looked at where the
 model gives up. Each comparison is lost once in a copy, and that is seen."""
 import os

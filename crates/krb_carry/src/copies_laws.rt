@@ -35,7 +35,7 @@ use crate::histories_laws;
 /// seals above the highest number of these; if it doesn't, or the carrier can't be asked, it is stopped
 /// (`After`). Whatever it does then, it seals none of their numbers (`begun`). Frames that the carrier has
 /// lost, and those of a copy that is used at the same time, only a receipt shows. Where a sender begins so
-/// after each restore of the one outbox, [`outbox_tables_laws`](krb_tables::outbox_tables_laws) say that no
+/// after each restore of the one outbox, [`outbox_tables_laws`](krb_laws::outbox_tables_laws) say that no
 /// number leaves for two records.
 pub fn copies_laws()
     ensures findings { OneFinding }

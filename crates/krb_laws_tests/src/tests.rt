@@ -5,7 +5,7 @@ ghost use Rattle.krb_seal.specs.Session.{IsShortAddress};
 
 use krb_carry::{Finding, Receipt, compare_receipt, copies_laws, own_history};
 use krb_der::{Bytes, HostAddress, Moment};
-use krb_peer_laws::{
+use krb_laws::{
     calls_in_c_laws, demand_fields_laws, frame_sizes_laws, open_each, open_frame, open_peer,
     open_through_export, peer_laws, reflection_laws, resume_peer, seal_peer, sealed_records_laws,
     take_each, take_frame,
@@ -13,7 +13,7 @@ use krb_peer_laws::{
 use krb_peers::{Delivery, Receiver};
 use krb_seal::{Expect, Mode, Opener, Refusal, SessionKey, exists_laws};
 use krb_structs::{Fault, KrbAddress, KrbCarried, KrbDemand, KrbMoment, KrbSession, Peer};
-use krb_tables::{outbox_tables_laws, rows_laws, store_tables_laws};
+use krb_laws::{outbox_tables_laws, rows_laws, store_tables_laws};
 use std::alloc::{AllocError, Global};
 use std::test::Fail;
 

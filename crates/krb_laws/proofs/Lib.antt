@@ -1,0 +1,17 @@
+pub mod DemandLemmas
+pub mod ReflectionLemmas
+pub mod PeerLemmas
+pub mod SealedRecordLemmas
+pub mod InCLemmas
+pub mod HappenLemmas
+pub mod TurnLemmas
+pub mod OpenedLemmas
+pub mod FrameSizeLemmas
+pub mod DatabaseLemmas
+pub mod StoreTablesLemmas
+pub mod HistoryLemmas
+pub mod BlindLemmas
+pub mod CommittedLemmas
+pub mod OutboxTablesLemmas
+pub mod RestoredLemmas
+pub mod ClashLemmas

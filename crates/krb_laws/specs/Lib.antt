@@ -1,0 +1,16 @@
+pub mod Demands
+pub mod Reflection
+pub mod Peers
+pub mod PeerLaws
+pub mod SealedRecords
+pub mod InC
+pub mod PeersHappen
+pub mod PeerTurn
+pub mod TakenFrames
+pub mod OpenedFrames
+pub mod FrameSizes
+pub mod Database
+pub mod StoreTables
+pub mod OutboxTables
+pub mod Restored
+pub mod Laws

@@ -1,9 +1,0 @@
-pub mod DemandLemmas
-pub mod ReflectionLemmas
-pub mod PeerLemmas
-pub mod SealedRecordLemmas
-pub mod InCLemmas
-pub mod HappenLemmas
-pub mod TurnLemmas
-pub mod OpenedLemmas
-pub mod FrameSizeLemmas
