@@ -8,7 +8,7 @@ use Rattle.krb_seal.specs.Sealer.{SealerState}
 use Rattle.krb_seal.specs.Opens.{OpenerState}
 use Rattle.krb_peers.specs.ReceiverState.{ReceiverState}
 use Rattle.krb_structs.specs.Peer.{PeerState}
-use Rattle.krb_held.specs.Held.{owns}
+use Rattle.krb_c.specs.Held.{owns}
 use Rattle.krb_structs.specs.contracts.lane_receiver.LaneReceiver.{the_row as receiver_row}
 use Rattle.krb_structs.specs.contracts.peer.Peer.{the_row as peer_row}
 use Rattle.krb_structs.specs.contracts.any_sealer.AnySealer.{the_row as sealer_row}

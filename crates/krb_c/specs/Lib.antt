@@ -6,3 +6,4 @@ pub mod Peers
 pub mod Many
 pub mod Taking
 pub mod Fields
+pub mod Held

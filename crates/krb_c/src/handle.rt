@@ -2,7 +2,7 @@
 
 ghost use Rattle.std.specs.Prelude.{◌≡◌, Option, None, Some, MatchOption};
 
-use krb_held::Held;
+use crate::Held;
 use krb_structs::Wipe;
 use std::alloc::Global;
 use std::mem;

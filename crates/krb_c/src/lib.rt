@@ -8,16 +8,21 @@
 //! the caller's. So is all that both ends of a
 //! carrier keep but the queue (krb_engine, over the structs of krb_carrier_structs). Nor has the history of
 //! a session ([`krb_carry::with_frame`]) a handle, which is bytes of the caller's.
+//!
+//! A value on the heap, or nothing, as C holds it: a pointer and a count, of which `krb_c` makes a struct for
+//! each kind of value.
 #![tactic(auto)]
 
 mod field_calls;
 mod handle;
+mod held;
 mod held_queue;
 mod history_calls;
 mod many_calls;
 mod message_calls;
 mod opener_calls;
 mod opener_handle;
+mod parts;
 mod pause_calls;
 mod peer_calls;
 mod peer_handle;
@@ -33,3 +38,5 @@ mod sending_calls;
 mod shard_calls;
 mod taking_calls;
 mod window_calls;
+
+pub use held::Held;

@@ -5,7 +5,7 @@ ghost use Rattle.krb_seal.specs.Opens.{OpenerState};
 ghost use Rattle.krb_c.specs.Handles.{owns_opener, opener_coded};
 
 use crate::handle::Handle;
-use krb_held::Held;
+use crate::Held;
 use krb_structs::WipeableOpener;
 use std::marker::Model;
 

@@ -5,7 +5,7 @@ ghost use Rattle.krb_structs.specs.Peer.{PeerState};
 ghost use Rattle.krb_c.specs.Handles.{owns_peer, peer_coded};
 
 use crate::handle::Handle;
-use krb_held::Held;
+use crate::Held;
 use krb_structs::Peer;
 use std::marker::Model;
 

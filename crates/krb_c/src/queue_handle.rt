@@ -6,7 +6,7 @@ ghost use Rattle.krb_c.specs.Handles.{owns_queue, queue_coded};
 
 use crate::handle::Handle;
 use crate::held_queue::HeldQueue;
-use krb_held::Held;
+use crate::Held;
 use std::marker::Model;
 
 /// A queue on the heap, or nothing, which is a queue in which none waits.

@@ -5,7 +5,7 @@ ghost use Rattle.krb_peers.specs.ReceiverState.{ReceiverState};
 ghost use Rattle.krb_c.specs.Handles.{owns_receiver, receiver_coded};
 
 use crate::handle::Handle;
-use krb_held::Held;
+use crate::Held;
 use krb_structs::LaneReceiver;
 use std::marker::Model;
 

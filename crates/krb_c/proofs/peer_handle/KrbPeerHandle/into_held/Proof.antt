@@ -16,7 +16,7 @@ use denote.Signature.{plain, type_at}
 use denote.Steps.{nothing}
 use denote.Triple.Walked.{says, Stays, stay_dropped, walk_of, ends_at, Goes-dropped}
 use Rattle.std.proofs.raw_atomic.Walks.{proved_at}
-use Rattle.krb_held.proofs.Values.{held_val, held_own, held_told, held_made, held_typed, ptr_typed}
+use Rattle.krb_c.proofs.Values.{held_val, held_own, held_told, held_made, held_typed, ptr_typed}
 use Rattle.krb_c.specs.contracts.peer_handle.KrbPeer as KrbPeer
 use Rattle.krb_c.specs.contracts.peer_handle.KrbPeerHandle.into_held as F
 use Rattle.krb_c.specs.contracts.peer_handle.KrbPeerHandle.into_held.Key.{name as #self}

@@ -16,9 +16,9 @@ use denote.Signature.{plain, type_at}
 use denote.Steps.{nothing}
 use denote.Triple.Walked.{says, Stays, stay_dropped, walk_of, ends_at, Goes-dropped}
 use Rattle.std.proofs.raw_atomic.Walks.{proved_at}
-use Rattle.krb_held.proofs.Values.{held_val, held_own, held_told, held_made, held_typed, ptr_typed}
+use Rattle.krb_c.proofs.Values.{held_val, held_own, held_told, held_made, held_typed, ptr_typed}
 use Rattle.krb_c.specs.contracts.held_queue.HeldQueue as Any
-use Rattle.krb_held.specs.contracts.held.Held as Held
+use Rattle.krb_c.specs.contracts.held.Held as Held
 use Rattle.krb_c.specs.contracts.queue_handle.KrbQueueHandle.of as F
 use Rattle.krb_c.specs.contracts.queue_handle.KrbQueueHandle.of.Key.{name as #self}
 use Rattle.krb_c.proofs.queue_handle.KrbQueueHandle.of.Statement.{statement}

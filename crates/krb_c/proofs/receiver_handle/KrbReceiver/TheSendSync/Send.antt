@@ -2,7 +2,7 @@
 use denote.Struct.Struct.{exits_of}
 use denote.Struct.Owning.{shape, fields, to}
 use denote.Param.Send.{IsSend, AllSend, owning_send, struct_send, sendable}
-use Rattle.krb_held.proofs.Crossing.{exit_quiet, owned_keyless}
+use Rattle.krb_c.proofs.Crossing.{exit_quiet, owned_keyless}
 use Rattle.krb_structs.specs.contracts.lane_receiver.LaneReceiver as Any
 use Rattle.krb_structs.proofs.lane_receiver.LaneReceiver.TheSendSync.{the_send as any_send}
 use Rattle.krb_c.specs.contracts.receiver_handle.KrbReceiver.{the_row, the_type}

@@ -26,12 +26,12 @@ use Rattle.std.specs.Prelude.{Some}
 use Rattle.std.proofs.BoxSteps.Form.{Bx, D, B, word, box_typed}
 use Rattle.std.proofs.BoxSteps.Steps.{box_out}
 use Rattle.std.proofs.raw_atomic.Walks.{proved_at}
-use Rattle.krb_held.proofs.Values.{held_val, held_own, held_made, held_typed}
-use Rattle.krb_held.proofs.HeldBox.{args, box_of, FromParts}
-use Rattle.krb_held.specs.contracts.held.Held.of_parts as F
-use Rattle.krb_held.specs.contracts.held.Held.of_parts.Key.{name as #self}
-use Rattle.krb_held.proofs.held.Held.of_parts.Statement.{statement}
-use Rattle.krb_held.proofs.held.Held.of_parts.Code as code
+use Rattle.krb_c.proofs.Values.{held_val, held_own, held_made, held_typed}
+use Rattle.krb_c.proofs.HeldBox.{args, box_of, FromParts}
+use Rattle.krb_c.specs.contracts.held.Held.of_parts as F
+use Rattle.krb_c.specs.contracts.held.Held.of_parts.Key.{name as #self}
+use Rattle.krb_c.proofs.held.Held.of_parts.Statement.{statement}
+use Rattle.krb_c.proofs.held.Held.of_parts.Code as code
 
 abbrev stayed : (X : RattleType) → Stays (F.ended X).signature.params (F.ended X).kept
 stayed X = (stay_dropped (FromParts X) no, tt)

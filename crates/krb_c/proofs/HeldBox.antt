@@ -9,8 +9,8 @@ use Rattle.std.proofs.BoxSteps.Form.{Bx}
 use Rattle.std.specs.contracts.alloc.Global as Heap
 use Rattle.std.specs.contracts.impls.GlobalAllocator.TheImpl.{ghosts, dict}
 use Rattle.std.proofs.alloc.Global.TheLaws as heap
-use Rattle.krb_held.specs.contracts.parts.Parts as Parts
-use Rattle.krb_held.specs.contracts.held.Held as Held
+use Rattle.krb_c.specs.contracts.parts.Parts as Parts
+use Rattle.krb_c.specs.contracts.held.Held as Held
 
 abbrev pub args : RattleType → Args
 args T = bounded (a_type ∷ []) (T, tt) dnil

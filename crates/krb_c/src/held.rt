@@ -2,7 +2,7 @@
 
 ghost use Rattle.std.specs.Prelude.{◌≡◌, Option, None, Some, MatchOption};
 ghost use Rattle.std.specs.Coded.{coded_option};
-ghost use Rattle.krb_held.specs.Held.{owns};
+ghost use Rattle.krb_c.specs.Held.{owns};
 
 use crate::parts::Parts;
 use krb_structs::Wipe;

@@ -23,15 +23,15 @@ use denote.RattleType.{RattleType}
 use denote.Steps.{nothing}
 use denote.Struct.Tuple.{Tuple}
 use denote.Triple.Walked.{says, Stays, stay_dropped, walk_of, ends_at, Goes-dropped}
-use Rattle.krb_held.proofs.Pairs.{pair_of, pair_val, pair_Typed}
+use Rattle.krb_c.proofs.Pairs.{pair_of, pair_val, pair_Typed}
 use Rattle.std.proofs.raw_atomic.Walks.{proved_at}
-use Rattle.krb_held.proofs.Values.{held_val, held_own, held_told, held_made, held_ty, held_typed, ptr_typed}
-use Rattle.krb_held.proofs.HeldBox.{args, FromHeld}
-use Rattle.krb_held.specs.contracts.held.Held as Held
-use Rattle.krb_held.specs.contracts.held.Held.counted as F
-use Rattle.krb_held.specs.contracts.held.Held.counted.Key.{name as #self}
-use Rattle.krb_held.proofs.held.Held.counted.Statement.{statement}
-use Rattle.krb_held.proofs.held.Held.counted.Code as code
+use Rattle.krb_c.proofs.Values.{held_val, held_own, held_told, held_made, held_ty, held_typed, ptr_typed}
+use Rattle.krb_c.proofs.HeldBox.{args, FromHeld}
+use Rattle.krb_c.specs.contracts.held.Held as Held
+use Rattle.krb_c.specs.contracts.held.Held.counted as F
+use Rattle.krb_c.specs.contracts.held.Held.counted.Key.{name as #self}
+use Rattle.krb_c.proofs.held.Held.counted.Statement.{statement}
+use Rattle.krb_c.proofs.held.Held.counted.Code as code
 
 abbrev stayed : (X : RattleType) → Stays (F.ended X).signature.params (F.ended X).kept
 stayed X = (stay_dropped (FromHeld X) no, tt)

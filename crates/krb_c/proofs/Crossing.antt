@@ -10,7 +10,7 @@ use denote.Memory.{lone}
 use denote.Param.Send.{IsSend, Quiet, part_keyless}
 use Rattle.std.specs.Prelude.{Option, Some, None}
 use Rattle.std.proofs.Crossing as crossing
-use Rattle.krb_held.specs.Held.{heap, owns}
+use Rattle.krb_c.specs.Held.{heap, owns}
 
 pub lies_keyless : (R : RattleType) → IsSend R → (at : Ptr) (x : R.Denot) → Keyless (lies_at R full_share at x)
 lies_keyless R send (block_ptr b o) x = part_keyless R send full_share x b o

@@ -30,14 +30,14 @@ use Rattle.std.proofs.alloc.Calls.{token, handle_tells}
 use Rattle.std.proofs.BoxSteps.Form.{Bx, D, R, τ, word, box_typed}
 use Rattle.std.proofs.BoxSteps.Steps.{box_in}
 use Rattle.std.proofs.raw_atomic.Walks.{proved_at}
-use Rattle.krb_held.specs.Held.{owns}
-use Rattle.krb_held.proofs.Values.{held_val, held_told, held_typed, by_option}
-use Rattle.krb_held.proofs.HeldBox.{args, box_of, FromHeld, FromHeap}
-use Rattle.krb_held.specs.contracts.held.Held as Held
-use Rattle.krb_held.specs.contracts.held.Held.into_parts as F
-use Rattle.krb_held.specs.contracts.held.Held.into_parts.Key.{name as #self}
-use Rattle.krb_held.proofs.held.Held.into_parts.Statement.{statement}
-use Rattle.krb_held.proofs.held.Held.into_parts.Code as code
+use Rattle.krb_c.specs.Held.{owns}
+use Rattle.krb_c.proofs.Values.{held_val, held_told, held_typed, by_option}
+use Rattle.krb_c.proofs.HeldBox.{args, box_of, FromHeld, FromHeap}
+use Rattle.krb_c.specs.contracts.held.Held as Held
+use Rattle.krb_c.specs.contracts.held.Held.into_parts as F
+use Rattle.krb_c.specs.contracts.held.Held.into_parts.Key.{name as #self}
+use Rattle.krb_c.proofs.held.Held.into_parts.Statement.{statement}
+use Rattle.krb_c.proofs.held.Held.into_parts.Code as code
 use Rattle.std.specs.contracts.alloc.Global as Heap
 
 abbrev stayed : (X : RattleType) → Stays (F.ended X).signature.params (F.ended X).kept

@@ -21,13 +21,13 @@ use denote.Steps.{nothing}
 use denote.Triple.Walked.{says, walk_of, ends_at}
 use Rattle.std.specs.Prelude.{None}
 use Rattle.std.proofs.raw_atomic.Walks.{proved_at}
-use Rattle.krb_held.proofs.Values.{held_val, held_own, held_made, held_typed}
-use Rattle.krb_held.proofs.HeldBox.{args}
-use Rattle.krb_held.specs.contracts.held.Held as Held
-use Rattle.krb_held.specs.contracts.held.Held.none as F
-use Rattle.krb_held.specs.contracts.held.Held.none.Key.{name as #self}
-use Rattle.krb_held.proofs.held.Held.none.Statement.{statement}
-use Rattle.krb_held.proofs.held.Held.none.Code as code
+use Rattle.krb_c.proofs.Values.{held_val, held_own, held_made, held_typed}
+use Rattle.krb_c.proofs.HeldBox.{args}
+use Rattle.krb_c.specs.contracts.held.Held as Held
+use Rattle.krb_c.specs.contracts.held.Held.none as F
+use Rattle.krb_c.specs.contracts.held.Held.none.Key.{name as #self}
+use Rattle.krb_c.proofs.held.Held.none.Statement.{statement}
+use Rattle.krb_c.proofs.held.Held.none.Code as code
 
 pub none_spec : {M : Type 1} → statement M
 none_spec 𝓤 𝓛 𝓜 𝓡 wired X LX =

@@ -1,4 +1,0 @@
-pub mod Values
-pub mod HeldBox
-pub mod Pairs
-pub mod Crossing
