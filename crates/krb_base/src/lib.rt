@@ -2,7 +2,7 @@
 //! overwritten when they end, prefixes of lists, the lane as a
 //! state machine, and the limits of texts and messages.
 //!
-//! ```rust crates/krb_seal_tests/src/base.rt
+//! ```rust crates/krb_message_tests/src/base.rt
 //! let bytes = Bytes::new(vec![in rt.alloc(); 0x68, 0x69]?);
 //! assert_same(&rt, bytes.as_slice(), b"hi".as_slice());
 //! assert_same(&rt, bytes.into_vec().as_slice(), b"hi".as_slice());

@@ -6,7 +6,7 @@
 //! same and copies nothing: the byte strings lie in the bytes that were given. So bytes that spell
 //! nothing are refused as malformed whether or not there is memory.
 //!
-//! ```rust crates/krb_seal_tests/src/codec.rt
+//! ```rust crates/krb_message_tests/src/codec.rt
 //! fn decode_safe(alloc: Global, bytes: &[u8]) -> Result<SafeMsg, DerError> {
 //!     match decode(alloc, bytes)? {
 //!         Message::Safe(m) => Ok(m),

@@ -1,6 +1,6 @@
 //! n-fold, HMAC-SHA1 and key derivation, as Kerberos uses them (RFC 3961, 3962 and 2104).
 //!
-//! ```rust crates/krb_seal_tests/src/keys.rt
+//! ```rust crates/krb_message_tests/src/keys.rt
 //! let mut mac = MacKey::new(key);
 //! let first = mac.hmac_sha1(&[data]);
 //! let second = mac.hmac_sha1(&[&[], data, &[]]);

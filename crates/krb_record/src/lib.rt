@@ -9,7 +9,7 @@
 //! each spelling one batch. [`group_end`] says how many of a sender's texts go together, and
 //! [`group_laws`] what the groups of all of them are.
 //!
-//! ```rust crates/krb_seal_tests/src/batch.rt
+//! ```rust crates/krb_message_tests/src/batch.rt
 //! let texts = read_batch(rt.alloc(), b"\x42\0\0\0\x01\x61\0\0\0\x01\x62")?;
 //! assert_same(&rt, texts.as_slice().len(), 2);
 //! ```

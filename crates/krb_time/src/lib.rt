@@ -1,7 +1,7 @@
 //! The times of Kerberos V5 (RFC 4120 section 5.2.3): timestamps in whole microseconds since
 //! 1970-01-01T00:00:00Z, and the fifteen bytes YYYYMMDDHHMMSSZ that name a second.
 //!
-//! ```rust crates/krb_seal_tests/src/time.rt
+//! ```rust crates/krb_message_tests/src/time.rt
 //! fn is_time_of(secs: u64, text: &[u8; 15]) -> bool {
 //!     secs <= LAST_SECOND && kerberos_time(secs) == *text && read_kerberos_time(text) == Some(secs)
 //! }

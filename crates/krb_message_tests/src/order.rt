@@ -1,6 +1,6 @@
 //! The order of records, without frames.
 
-use crate::asserts::assert_same;
+use crate::peers_asserts::assert_same;
 use krb_base::Bytes;
 use krb_peers::{Order, OrderRefusal, Record};
 

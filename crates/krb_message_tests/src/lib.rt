@@ -3,6 +3,15 @@
 //! vectors of the standards, and messages worked out by hand. What a reader refuses is in
 //! `tests/jobs`. They stand in a crate of their own, which has no public item, so that each
 //! library is proved once, and the tests are proved beside krb_seal.
+//!
+//! The tests of [`krb_seal`] and [`krb_peers`], over what these have public: frames of an independent
+//! sealer, the order of records, and which allocation may fail. What an opener or a receiver refuses
+//! is in `tests/jobs`. They stand in a crate of their own, which has no public item, so that
+//! each library is proved once.
+//!
+//! The tests of [`krb_bulk`], over what it has public: frames of an independent sealer, and what is
+//! refused. They stand in a crate of their own, which has no public item, so that the library is proved
+//! once.
 #![tactic(auto)]
 
 #[cfg(test)]
@@ -12,6 +21,8 @@ mod base;
 #[cfg(test)]
 mod batch;
 #[cfg(test)]
+mod bulk;
+#[cfg(test)]
 mod cipher;
 #[cfg(test)]
 mod codec;
@@ -20,7 +31,13 @@ mod eight;
 #[cfg(test)]
 mod keys;
 #[cfg(test)]
+mod order;
+#[cfg(test)]
+mod peers_asserts;
+#[cfg(test)]
 mod record;
+#[cfg(test)]
+mod sealing;
 #[cfg(test)]
 mod stolen;
 #[cfg(test)]

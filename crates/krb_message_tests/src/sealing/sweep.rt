@@ -7,7 +7,7 @@ ghost use Rattle.std.specs.Prelude.{◌≡◌, IfOk};
 use super::frames::SAFE_17;
 use super::records::{PRIV_BATCH, PRIV_CLOSE, PRIV_TEXT, SAFE_BATCH, SAFE_CLOSE};
 use super::{MICROS, opener};
-use crate::asserts::assert_same;
+use crate::peers_asserts::assert_same;
 use krb_base::Bytes;
 use krb_der::Moment;
 use krb_peers::{Delivery, Log, Receiver, Texts};

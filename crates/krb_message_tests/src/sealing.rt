@@ -9,7 +9,7 @@ mod sweep;
 ghost use Rattle.std.specs.Prelude.{IfOk};
 ghost use Rattle.krb_seal.specs.Session.{HasShortAddresses, IsShortAddress};
 
-use crate::asserts::assert_same;
+use crate::peers_asserts::assert_same;
 use frames::{PRIV_17, PRIV_17_OTHER, PRIV_18, SAFE_17, SAFE_18};
 use krb_der::{Bytes, HostAddress, Moment};
 use krb_seal::{

@@ -5,7 +5,7 @@ use super::frames::{
     SAFE_NO_TIME, SAFE_NO_USEC, SAFE_TIMELESS, SAFE_TO_RECEIVER,
 };
 use super::opener;
-use crate::asserts::{assert_same, assert_same_at};
+use crate::peers_asserts::{assert_same, assert_same_at};
 use krb_seal::{Mode, Opener, authentic_laws};
 use std::alloc::Global;
 
