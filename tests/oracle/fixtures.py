@@ -1,6 +1,6 @@
 """The keys, addresses and frames that the tests expect: of krb_seal and krb_peers (in
 krb_message_tests), krb_core (in krb_relay_tests), krb_commands, krbrelay, krb_structs (in
-krb_structs_tests), krb_laws (in krb_laws_tests), of the C programs, of the program example_seal
+krb_call_tests), krb_laws (in krb_call_tests), of the C programs, of the program example_seal
 and of the package in python/. The sealer is frames.py."""
 import hashlib
 
