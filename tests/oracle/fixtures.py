@@ -1,5 +1,5 @@
 """The keys, addresses and frames that the tests expect: of krb_seal and krb_peers (in
-krb_message_tests), krb_core (in krb_relay_tests), krb_commands, krbrelay, krb_structs (in
+krb_message_tests), krb_core (in krb_thread_tests), krb_commands, krbrelay, krb_structs (in
 krb_call_tests), krb_laws (in krb_call_tests), of the C programs, of the program example_seal
 and of the package in python/. The sealer is frames.py."""
 import hashlib
@@ -13,7 +13,7 @@ RECEIVER = (2, bytes([10, 0, 0, 255]))
 KEY_128 = bytes(range(16))
 KEY_256 = bytes([0x11] * 32)
 # The first 48 bytes that ChaCha20 gives for a key of zeros (RFC 8439 appendix A.1): what
-# krb_relay_tests draws for the first three records.
+# krb_thread_tests draws for the first three records.
 DRAWN = bytes.fromhex("76b8e0ada0f13d90405d6ae55386bd28bdd219b8a08ded1aa836efcc8b770dc7"
                       "da41597c5157488d7724e03fb8d84a37")
 FIRST, LAST = 7, 4294967295     # the number of most frames, and the last one

@@ -5,7 +5,7 @@
 //! headline of each lane, by what the log has of it. Senders, receivers, plans and the log are
 //! those of [`krb_peers`], and are re-exported here.
 //!
-//! ```rust crates/krb_relay_tests/src/stepped/steps.rt
+//! ```rust crates/krb_thread_tests/src/stepped/steps.rt
 //! relay.run(&[SEND, SEND, TAKE, TAKE, SEND, TAKE, SEND, TAKE])?;
 //! assert!(rt; is_whole(relay.log()) && relay.done());
 //! let sent = relay.sent(0);

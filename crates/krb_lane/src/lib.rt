@@ -3,7 +3,7 @@
 //! [`lane`] makes both ends, which may be in two threads. After both have ended, [`meet`] brings them
 //! together: what was got is a prefix of what was sent, and all of it if End was got.
 //!
-//! ```rust crates/krb_lane_tests/src/lane.rt
+//! ```rust crates/krb_thread_tests/src/lane.rt
 //! let (mut tx, mut rx) = lane(&rt, alloc, 2)?;
 //! tx.send(&rt, [0x61].to_vec(alloc)?)?;
 //! tx.send(&rt, [0x62].to_vec(alloc)?)?;

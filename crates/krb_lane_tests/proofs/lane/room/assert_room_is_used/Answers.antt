@@ -1,5 +1,0 @@
--- The room is the one that was asked.
-use Rattle.krb_lane_tests.proofs.lane.room.assert_room_is_used.Goals as goal
-
-pub lane-requires : goal.lane-requires
-lane-requires g c = c.requires
