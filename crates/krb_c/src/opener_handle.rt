@@ -4,8 +4,8 @@ ghost use Rattle.std.specs.Prelude.{◌≡◌, Option};
 ghost use Rattle.krb_seal.specs.Opens.{OpenerState};
 ghost use Rattle.krb_c.specs.Handles.{owns_opener, opener_coded};
 
-use crate::handle::Handle;
 use crate::Held;
+use crate::handle::Handle;
 use krb_structs::WipeableOpener;
 use std::marker::Model;
 

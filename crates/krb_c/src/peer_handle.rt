@@ -4,8 +4,8 @@ ghost use Rattle.std.specs.Prelude.{◌≡◌, Option};
 ghost use Rattle.krb_structs.specs.Peer.{PeerState};
 ghost use Rattle.krb_c.specs.Handles.{owns_peer, peer_coded};
 
-use crate::handle::Handle;
 use crate::Held;
+use crate::handle::Handle;
 use krb_structs::Peer;
 use std::marker::Model;
 

@@ -4,9 +4,9 @@ ghost use Rattle.std.specs.Prelude.{◌≡◌, Option};
 ghost use Rattle.krb_c.specs.declared.held_queue.HeldQueue.{HeldQueue};
 ghost use Rattle.krb_c.specs.Handles.{owns_queue, queue_coded};
 
+use crate::Held;
 use crate::handle::Handle;
 use crate::held_queue::HeldQueue;
-use crate::Held;
 use std::marker::Model;
 
 /// A queue on the heap, or nothing, which is a queue in which none waits.

@@ -4,8 +4,8 @@ ghost use Rattle.std.specs.Prelude.{◌≡◌, Option};
 ghost use Rattle.krb_peers.specs.ReceiverState.{ReceiverState};
 ghost use Rattle.krb_c.specs.Handles.{owns_receiver, receiver_coded};
 
-use crate::handle::Handle;
 use crate::Held;
+use crate::handle::Handle;
 use krb_structs::LaneReceiver;
 use std::marker::Model;
 

@@ -11,8 +11,8 @@ ghost use Rattle.krb_carrier_structs.specs.Sending.{CanSeal, IsSending, Tells, t
 ghost use Rattle.krb_engine.specs.Sending.{confirmed, is_settled, listed, loaded, reconnected, sealed, sealing_room, stands as why_it_stands};
 
 use krb_carrier_structs::{KrbCommand, KrbReceipt, KrbSending, number_of_heard, number_of_stands};
-use krb_engine::Sending;
 use krb_carry::HISTORY_SIZE;
+use krb_engine::Sending;
 use krb_structs::Fault;
 
 /// Makes the end of a session of which so much was stored: all that wasn't carried counts as not

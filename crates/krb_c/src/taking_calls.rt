@@ -5,8 +5,8 @@ ghost use Rattle.krb_c.specs.Taking.{TakeManyAnswer, TakesManyTo};
 
 use crate::handle::Handle;
 use crate::receiver_handle::KrbReceiver;
-use krb_structs::{Fault, KrbMoment};
 use krb_calls::{KrbFrame, KrbTaken, MOST_FRAMES, take_many_into};
+use krb_structs::{Fault, KrbMoment};
 use std::alloc::Global;
 
 /// Takes these frames one after another at this moment, each as

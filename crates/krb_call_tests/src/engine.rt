@@ -3,11 +3,10 @@
 
 use krb_carry::Receipt;
 use krb_engine::{
-    Asks, Command, Ended, Flow, Head, Heard, Judged, Opening, Outcome, Read, Reading, Receiving,
-    Row, Seen, Sending, SendingParts, Spot, Stands, judge, liveness_laws, receiving_laws,
-    sending_laws, shard_laws, stream_laws,
+    Asks, Command, Ended, Flow, Head, Heard, Judged, Opening, Outcome, Pause, Queue, Read, Reading,
+    Receiving, Row, Seen, Sending, SendingParts, Spot, Stands, judge, liveness_laws, pause_laws,
+    queue_laws, receiving_laws, sending_laws, shard_laws, stream_laws,
 };
-use krb_engine::{Pause, Queue, pause_laws, queue_laws};
 use std::process::Abort;
 use std::test::Fail;
 

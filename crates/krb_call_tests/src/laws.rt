@@ -7,13 +7,12 @@ use krb_carry::{Finding, Receipt, compare_receipt, copies_laws, own_history};
 use krb_der::{Bytes, HostAddress, Moment};
 use krb_laws::{
     calls_in_c_laws, demand_fields_laws, frame_sizes_laws, open_each, open_frame, open_peer,
-    open_through_export, peer_laws, reflection_laws, resume_peer, seal_peer, sealed_records_laws,
-    take_each, take_frame,
+    open_through_export, outbox_tables_laws, peer_laws, reflection_laws, resume_peer, rows_laws,
+    seal_peer, sealed_records_laws, store_tables_laws, take_each, take_frame,
 };
 use krb_peers::{Delivery, Receiver};
 use krb_seal::{Expect, Mode, Opener, Refusal, SessionKey, exists_laws};
 use krb_structs::{Fault, KrbAddress, KrbCarried, KrbDemand, KrbMoment, KrbSession, Peer};
-use krb_laws::{outbox_tables_laws, rows_laws, store_tables_laws};
 use std::alloc::{AllocError, Global};
 use std::test::Fail;
 

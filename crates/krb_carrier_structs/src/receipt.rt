@@ -4,9 +4,8 @@ ghost use Rattle.std.specs.Prelude.{◌≡◌};
 ghost use Rattle.krb_carrier_structs.specs.Receipt.{told_receipt};
 
 use crate::numbers::{asks_of, number_of_owed};
-use krb_carry::Receipt;
+use krb_carry::{HISTORY_SIZE, Receipt};
 use krb_engine::Asks;
-use krb_carry::HISTORY_SIZE;
 
 /// What a receiver says of a session, and asks for: zeros are no receipt.
 #[repr(C)]

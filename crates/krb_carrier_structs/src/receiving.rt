@@ -5,9 +5,8 @@ ghost use Rattle.krb_carrier_structs.specs.Receiving.{IsReceiving, TellsReceivin
 
 use crate::numbers::{asks_of, number_of_owed};
 use crate::pause::KrbPause;
-use krb_carry::Receipt;
+use krb_carry::{HISTORY_SIZE, Receipt};
 use krb_engine::{Receiving, Row, Seen};
-use krb_carry::HISTORY_SIZE;
 
 /// What a store has of a session.
 #[repr(C)]

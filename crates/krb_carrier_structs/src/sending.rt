@@ -7,8 +7,7 @@ ghost use Rattle.krb_carrier_structs.specs.Sending.{IsSending, Tells, told_parts
 use crate::numbers::{ended_of, number_of_ended};
 use crate::pause::KrbPause;
 use crate::progress::KrbProgress;
-use krb_engine::{Sending, SendingParts};
-use krb_engine::Pause;
+use krb_engine::{Pause, Sending, SendingParts};
 
 /// One session's end at a sender.
 #[repr(C)]

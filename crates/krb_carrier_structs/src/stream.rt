@@ -3,9 +3,8 @@
 ghost use Rattle.std.specs.Prelude.{◌≡◌};
 ghost use Rattle.krb_carrier_structs.specs.Stream.{told_head, told_opening};
 
-use krb_carry::Receipt;
+use krb_carry::{HISTORY_SIZE, Receipt};
 use krb_engine::{Head, Opening};
-use krb_carry::HISTORY_SIZE;
 
 /// The last session of a stream that a store has: zeros are none.
 #[repr(C)]

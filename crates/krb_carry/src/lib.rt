@@ -49,7 +49,7 @@
 //! [`copies_laws`] say what follows.
 #![tactic(auto)]
 
-mod copies_laws;
+mod copies;
 mod history;
 mod laws;
 mod outbox;
@@ -57,7 +57,7 @@ mod progress;
 mod receipt;
 mod store;
 
-pub use copies_laws::copies_laws;
+pub use copies::copies_laws;
 pub use history::{HISTORY_SIZE, TAG_SIZE, with_frame};
 pub use laws::histories_laws;
 pub use outbox::{delivery_laws, outbox_laws};

@@ -4,8 +4,7 @@ ghost use Rattle.krb_engine.specs.Laws.{CarriedStandInTurn, CopiesAreFew, Delete
 ghost use Rattle.krb_engine.specs.ReceivingLaws.{AcceptsInTurn, ClosesAreStored, GoesWithTheStore, ReceiptsAreOwed, ReceiptsAreTrue, ReceiptsLeave, RefusesByNumber};
 ghost use Rattle.krb_engine.specs.Liveness.{AllIsDone, AsksAreHeeded, GoodRoundsHappen, IdleIsDone, MoreMayBeSealed, RoundsDeliver, StoppedHoldNoRoom, WakesAreToCome};
 
-use krb_carry::{delivery_laws, progress_laws};
-use krb_carry::copies_laws;
+use krb_carry::{copies_laws, delivery_laws, progress_laws};
 
 /// What holds of a session's end, whatever happens to it and whenever it is served.
 ///

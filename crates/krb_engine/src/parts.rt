@@ -1,7 +1,6 @@
 //! The parts of a session's end at a sender.
 
-use crate::Ended;
-use crate::Pause;
+use crate::{Ended, Pause};
 
 /// All that a session's end at a sender is, for a caller that keeps it as plain values.
 #[derive(Clone, Copy, Debug)]

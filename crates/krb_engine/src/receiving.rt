@@ -4,10 +4,8 @@ ghost use Rattle.std.specs.Prelude.{◌≡◌, ◌+◌, ◌^◌, ◌<◌};
 ghost use Rattle.krb_engine.specs.Receiving.{after_frame, dropped, has_row, outcome, owes, stored, took};
 ghost use Rattle.krb_engine.specs.Calls.{AnswersReceipt};
 
-use crate::Asks;
-use krb_carry::Receipt;
-use krb_carry::with_frame;
-use crate::Pause;
+use crate::{Asks, Pause};
+use krb_carry::{Receipt, with_frame};
 
 /// For how many milliseconds after a receipt no other one leaves.
 const RECEIPT: u64 = 200;

@@ -8,11 +8,8 @@ ghost use Rattle.krb_engine.specs.Parts.{end_of_parts};
 ghost use Rattle.krb_engine.specs.SendingState.{IsEnd};
 ghost use Rattle.krb_engine.specs.Calls.{Hears, IsProbe, Serves};
 
-use crate::SendingParts;
-use krb_carry::Progress;
-use krb_carry::{Finding, Receipt, compare_receipt};
-use krb_carry::HISTORY_SIZE;
-use crate::Pause;
+use crate::{Pause, SendingParts};
+use krb_carry::{Finding, HISTORY_SIZE, Progress, Receipt, compare_receipt};
 use std::marker::Model;
 
 /// How many frames of a session are under way, at first and at most.

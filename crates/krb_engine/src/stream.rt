@@ -4,9 +4,7 @@ ghost use Rattle.std.specs.Prelude.{◌≡◌};
 ghost use Rattle.krb_engine.specs.Stream.{judged};
 ghost use Rattle.krb_engine.specs.StreamLaws.{BeginsAfterTheClose, FirstOneBegins, OwnHistoryGoesOn, StreamsTakeEffectInOrder, WholeStreamsTakeEffect};
 
-use krb_carry::delivery_laws;
-use krb_carry::Receipt;
-use krb_carry::histories_laws;
+use krb_carry::{Receipt, delivery_laws, histories_laws};
 
 /// The last session of a stream that a store has.
 #[derive(Clone, Copy, Debug, PartialEq, Eq)]

@@ -54,9 +54,8 @@ pub use emission::emit;
 pub use frames::{attempt_laws, frames_laws};
 pub use gate::{Gate, NoGate};
 pub use krb_base::{BATCH_LIMIT, LAST_NUMBER, TEXT_LIMIT, USER_DATA_LIMIT};
-pub use krb_record::Emit;
 pub use krb_record::{
-    Record, RecordError, RecordKind, Texts, read_record, record_bytes, record_laws,
+    Emit, Record, RecordError, RecordKind, Texts, read_record, record_bytes, record_laws,
 };
 pub use laws::{accepted_laws, logged_laws, rounds_laws, verdict_laws};
 pub use log::{Entry, Event, Log, Status};

@@ -5,8 +5,8 @@ mod frames;
 mod steps;
 mod sweep;
 
-use crate::relay_asserts::{assert_log, assert_same, assert_sender};
 use crate::lanes::Lanes;
+use crate::relay_asserts::{assert_log, assert_same, assert_sender};
 use crate::watch::{Odd, Watch};
 use frames::{SAFE_BATCH, SAFE_CLOSE};
 use krb_core::{StartError, Status, Stepped};

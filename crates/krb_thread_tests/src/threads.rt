@@ -6,8 +6,8 @@ mod long;
 mod sweep;
 mod together;
 
-use crate::relay_asserts::{assert_log, assert_same, assert_sender};
 use crate::lanes::Lanes;
+use crate::relay_asserts::{assert_log, assert_same, assert_sender};
 use crate::watch::{Odd, Watch};
 use krb_peers::{Wire, emit_sealed_within};
 use krb_relay::Cause;

@@ -4,8 +4,8 @@ ghost use Rattle.std.specs.Prelude.{◌≡◌, ◌<◌, length, IfOk};
 ghost use Rattle.krb_core.specs.Stepped.{lane_of};
 
 use super::PLAIN;
-use crate::relay_asserts::assert_same;
 use crate::lanes::Lanes;
+use crate::relay_asserts::assert_same;
 use crate::watch::Watch;
 use krb_core::{Did, Event, Log, Stepped, Turn};
 use std::alloc::{AllocError, Global};

@@ -1,8 +1,8 @@
 //! Relays of long texts, whose frames are opened in threads: the log has them in the order of the
 //! rounds, as it has short ones.
 
-use crate::relay_asserts::assert_same;
 use crate::lanes::Lanes;
+use crate::relay_asserts::assert_same;
 use crate::watch::{Odd, Watch};
 use krb_peers::{Event, Log};
 use krb_relay::Cause;

@@ -3,8 +3,8 @@
 
 use super::long::{SIZE, assert_begins, assert_rounds, lanes_of};
 use super::{PLAIN, together};
-use crate::relay_asserts::assert_same;
 use crate::lanes::Lanes;
+use crate::relay_asserts::assert_same;
 use crate::watch::{Odd, Watch};
 use krb_relay::Cause;
 use std::test::Fail;

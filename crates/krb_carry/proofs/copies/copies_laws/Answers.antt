@@ -2,7 +2,7 @@ use Rattle.krb_carry.proofs.ClaimLemmas.{one_finding, one_digest, stay_true, del
 use Rattle.krb_carry.proofs.TextLemmas.{texts_took_effect}
 use Rattle.krb_carry.proofs.ForkLemmas.{forks_happen}
 use Rattle.krb_carry.proofs.ExampleLemmas.{fork_exists}
-use Rattle.krb_carry.proofs.copies_laws.copies_laws.Goals as goal
+use Rattle.krb_carry.proofs.copies.copies_laws.Goals as goal
 
 pub returns : goal.returns
 returns c =
