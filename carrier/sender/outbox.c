@@ -64,6 +64,8 @@ static const char *const columns[][2] = {
     { "session", "history TEXT NOT NULL DEFAULT ''" },
     { "session", "stands INTEGER NOT NULL DEFAULT 0" },
     { "session", "stood INTEGER NOT NULL DEFAULT 0" },
+    { "session", "stop BLOB NOT NULL DEFAULT x''" },
+    { "session", "stop_since INTEGER NOT NULL DEFAULT 0" },
     { "frame", "history BLOB NOT NULL DEFAULT x''" },
     { "text", "since INTEGER NOT NULL DEFAULT 0" },
     { "owner", "renewed INTEGER NOT NULL DEFAULT 0" },
@@ -94,10 +96,16 @@ static const char *const sql[OUTBOX_STATEMENTS] = {
                      " done = ?6, history = ?7 WHERE name = ?5"),
     [SELECT_OWNER] = "SELECT turn FROM owner",
     [SELECT_SENDING] = "SELECT DISTINCT session FROM frame",
+    [SELECT_STOPS] = "SELECT name FROM session WHERE stop != x''",
+    [SELECT_STOP] = "SELECT stop, stop_since FROM session WHERE name = ? AND stop != x''",
+    [SET_STOP] = ("INSERT INTO session (name, next, carried, at, shard, done, stop, stop_since)"
+                  " VALUES (?1, ?3, ?4, 0, ?5, ?4, ?2, CAST(strftime('%s') AS INTEGER))"
+                  " ON CONFLICT (name) DO UPDATE SET stop = ?2, stop_since ="
+                  " iif(stop = x'', CAST(strftime('%s') AS INTEGER), stop_since)"),
     [DROP_STOPPED] = "DELETE FROM stopped",
     [END_STOPPED] = "DELETE FROM stopped WHERE session = ?",
     [COUNT_STOPPED] = "SELECT count(*) FROM stopped",
-    [ADD_STOPPED] = ("INSERT INTO stopped VALUES (?1, ?2, CAST(strftime('%s') AS INTEGER))"
+    [ADD_STOPPED] = ("INSERT INTO stopped VALUES (?1, ?2, iif(?3 > 0, ?3, CAST(strftime('%s') AS INTEGER)))"
                      " ON CONFLICT (session) DO UPDATE SET reason = ?2"),
     [COUNT_TEXTS] = "SELECT count(*) FROM (SELECT 1 FROM text LIMIT 100000)",
     [OLDEST_TEXT] = "SELECT since FROM text ORDER BY id LIMIT 1",
@@ -122,12 +130,14 @@ static const char *const rows_sql[OUTBOX_ROWS] = {
     [ADD_SEALED] = "INSERT INTO sealed (text, session, number, part) VALUES (?, ?, ?, ?)",
 };
 
-static sqlite3_int64 owner(struct outbox *o)
+/* The number that a question has for its answer, 0 if there is none; or -1 after a fault. */
+static int read_number(struct outbox *o, enum outbox_statement question, uint64_t *number)
 {
-    struct statement *select = &o->statements[SELECT_OWNER];
-    sqlite3_int64 turn = step_row(select) == 1 ? sqlite3_column_int64(select->at, 0) : -1;
+    struct statement *select = &o->statements[question];
+    int row = step_row(select);
+    *number = row == 1 ? (uint64_t)sqlite3_column_int64(select->at, 0) : 0;
     end_rows(select);
-    return turn;
+    return row >= 0 ? 0 : -1;
 }
 
 static int complete(struct outbox *o)
@@ -178,8 +188,7 @@ int outbox_open(struct outbox *o, const char *path)
     if (begin_writing(o->db) != 0 || run(o->db, "UPDATE owner SET turn = turn + 1") != 0
         || outbox_drop_stopped(o) != 0)
         return -1;
-    o->turn = owner(o);
-    return o->turn > 0 ? run(o->db, "COMMIT") : -1;
+    return read_number(o, SELECT_OWNER, &o->turn) == 0 && o->turn > 0 ? run(o->db, "COMMIT") : -1;
 }
 
 int outbox_bound(struct outbox *o, unsigned texts)
@@ -200,6 +209,7 @@ void outbox_close(struct outbox *o)
 int outbox_load(struct outbox *o, const struct session *session, struct outbox_progress *it)
 {
     struct statement *select = &o->statements[LOAD_SESSION];
+    const char *history;
     int row;
     bind_text(select, 1, session->name);
     row = step_row(select);
@@ -213,8 +223,12 @@ int outbox_load(struct outbox *o, const struct session *session, struct outbox_p
         it->incarnation = (uint64_t)sqlite3_column_int64(select->at, 3);
         it->shard = sqlite3_column_int(select->at, 4);
         it->done = (uint64_t)sqlite3_column_int64(select->at, 5);
-        history_read(&it->history, (const char *)sqlite3_column_text(select->at, 6));
+        history = (const char *)sqlite3_column_text(select->at, 6);
         it->stands = (uint32_t)sqlite3_column_int(select->at, 7);
+        if (history == NULL)
+            row = -1; /* there was no memory for it */
+        else
+            history_read(&it->history, history);
     }
     if (it->done <= session->first) /* no frame: an opening is none of them */
         it->history = (struct history){ .is_known = 1 };
@@ -222,9 +236,9 @@ int outbox_load(struct outbox *o, const struct session *session, struct outbox_p
     return row >= 0 ? 0 : -1;
 }
 
-int outbox_sessions(struct outbox *o, outbox_take *take, void *given)
+/* Passes each name that a statement gives. */
+static int pass_names(struct statement *select, outbox_take *take, void *given)
 {
-    struct statement *select = &o->statements[SELECT_SENDING];
     int row, answer = 0;
     while (answer == 0 && (row = step_row(select)) != 0) {
         const char *name = row == 1 ? (const char *)sqlite3_column_text(select->at, 0) : NULL;
@@ -234,59 +248,64 @@ int outbox_sessions(struct outbox *o, outbox_take *take, void *given)
     return answer;
 }
 
-int outbox_has_text(struct outbox *o, sqlite3_int64 after)
+int outbox_sessions(struct outbox *o, outbox_take *take, void *given)
+{
+    return pass_names(&o->statements[SELECT_SENDING], take, given);
+}
+
+int outbox_stops(struct outbox *o, outbox_take *take, void *given)
+{
+    return pass_names(&o->statements[SELECT_STOPS], take, given);
+}
+
+int outbox_may_have_text(struct outbox *o, sqlite3_int64 after)
 {
     int row;
     bind_number(&o->statements[HAS_TEXT], 1, after);
-    row = step_row(&o->statements[HAS_TEXT]) == 1;
+    row = step_row(&o->statements[HAS_TEXT]);
     end_rows(&o->statements[HAS_TEXT]);
-    return row;
+    return row != 0;
 }
 
-/* The number that a question has for its answer; 0 if there is none. */
-static uint64_t number_of(struct outbox *o, enum outbox_statement question)
+int outbox_count_texts(struct outbox *o, uint64_t *count)
 {
-    struct statement *select = &o->statements[question];
-    sqlite3_int64 number = step_row(select) == 1 ? sqlite3_column_int64(select->at, 0) : 0;
-    end_rows(select);
-    return (uint64_t)number;
+    return read_number(o, COUNT_TEXTS, count);
 }
 
-uint64_t outbox_count_texts(struct outbox *o)
+int outbox_oldest_text(struct outbox *o, uint64_t *second)
 {
-    return number_of(o, COUNT_TEXTS);
+    return read_number(o, OLDEST_TEXT, second);
 }
 
-uint64_t outbox_oldest_text(struct outbox *o)
+int outbox_count_stopped(struct outbox *o, uint64_t *count)
 {
-    return number_of(o, OLDEST_TEXT);
+    return read_number(o, COUNT_STOPPED, count);
 }
 
-uint64_t outbox_count_stopped(struct outbox *o)
+int outbox_renewed(struct outbox *o, uint64_t *second)
 {
-    return number_of(o, COUNT_STOPPED);
+    return read_number(o, SELECT_RENEWED, second);
 }
 
-uint64_t outbox_renewed(struct outbox *o)
+enum outbox_answer outbox_owned(struct outbox *o)
 {
-    return number_of(o, SELECT_RENEWED);
-}
-
-int outbox_is_owned(struct outbox *o)
-{
-    return owner(o) == o->turn;
+    uint64_t turn;
+    if (read_number(o, SELECT_OWNER, &turn) != 0)
+        return OUTBOX_AGAIN;
+    return turn == o->turn ? OUTBOX_OK : OUTBOX_TAKEN;
 }
 
 /* ---- A transaction */
 
 enum outbox_answer outbox_begin(struct outbox *o)
 {
+    enum outbox_answer owned;
     if (begin_writing(o->db) != 0)
         return OUTBOX_AGAIN;
-    if (outbox_is_owned(o))
-        return OUTBOX_OK;
-    outbox_rollback(o);
-    return OUTBOX_TAKEN;
+    owned = outbox_owned(o);
+    if (owned != OUTBOX_OK)
+        outbox_rollback(o);
+    return owned;
 }
 
 enum outbox_answer outbox_set_renewed(struct outbox *o, uint64_t second)
@@ -410,12 +429,40 @@ int outbox_drop_done(struct outbox *o, const char *session, uint64_t done)
                ? 0 : -1;
 }
 
-int outbox_add_stopped(struct outbox *o, const char *session, const char *reason)
+int outbox_add_stopped(struct outbox *o, const char *session, const char *reason, uint64_t since)
 {
     struct statement *add = &o->statements[ADD_STOPPED];
     bind_text(add, 1, session);
     bind_text(add, 2, reason);
+    bind_number(add, 3, (sqlite3_int64)since);
     return step_once(add);
+}
+
+int outbox_set_stop(struct outbox *o, const struct session *session, const struct stop *stop)
+{
+    struct statement *set = &o->statements[SET_STOP];
+    bind_text(set, 1, session->name);
+    bind_bytes(set, 2, stop->receipt, stop->len);
+    bind_number(set, 3, session->first);
+    bind_number(set, 4, session->first - session->has_opening);
+    bind_number(set, 5, session->shard);
+    return step_once(set);
+}
+
+int outbox_find_stop(struct outbox *o, const char *session, struct stop *stop)
+{
+    struct statement *select = &o->statements[SELECT_STOP];
+    int row;
+    *stop = (struct stop){ .len = 0 };
+    bind_text(select, 1, session);
+    row = step_row(select);
+    if (row == 1 && sqlite3_column_bytes(select->at, 0) <= RECEIPT) {
+        stop->len = (size_t)sqlite3_column_bytes(select->at, 0);
+        memcpy(stop->receipt, sqlite3_column_blob(select->at, 0), stop->len);
+        stop->since = (uint64_t)sqlite3_column_int64(select->at, 1);
+    }
+    end_rows(select);
+    return row >= 0 ? 0 : -1;
 }
 
 int outbox_end_stopped(struct outbox *o, const char *session)
@@ -469,48 +516,54 @@ void outbox_end_frames(struct outbox *o)
     end_rows(&o->statements[SELECT_FRAMES]);
 }
 
-/* Adds the frames of a session from a number up to another. */
-static void add_frames(struct outbox *o, const char *session, uint64_t from, uint64_t to,
-                       struct history *history)
+/* Adds the frames of a session from a number up to another: 0, or -1 after a fault. It isn't known where one of them
+ * isn't there. */
+static int add_frames(struct outbox *o, const char *session, uint64_t from, uint64_t to,
+                      struct history *history)
 {
     const uint8_t *frame;
     uint64_t number;
     size_t len;
+    int row = 1;
     outbox_select_frames(o, session, from, UINT32_MAX);
-    while (history->is_known && from < to)
-        if (outbox_next_frame(o, &number, &frame, &len) != 1 || number != from++
-            || history_add(history, frame, len) != 0)
+    while (row == 1 && history->is_known && from < to) {
+        row = outbox_next_frame(o, &number, &frame, &len);
+        if (row == 1 && number == from++)
+            row = history_add(history, frame, len) == 0 ? 1 : -1;
+        else
             history->is_known = 0;
+    }
     outbox_end_frames(o);
+    return row >= 0 ? 0 : -1;
 }
 
-/* The history beside a frame, if there is one. */
+/* The history beside a frame, which isn't known if there is none: 0, or -1 after a fault. */
 static int read_history(struct outbox *o, const char *session, uint64_t number, struct history *history)
 {
     struct statement *select = &o->statements[SELECT_HISTORY];
+    int row;
     bind_text(select, 1, session);
     bind_number(select, 2, (sqlite3_int64)number);
-    history->is_known = step_row(select) == 1
-                        && sqlite3_column_bytes(select->at, 0) == (int)sizeof history->bytes;
+    row = step_row(select);
+    history->is_known = row == 1 && sqlite3_column_bytes(select->at, 0) == (int)sizeof history->bytes;
     if (history->is_known)
         memcpy(history->bytes, sqlite3_column_blob(select->at, 0), sizeof history->bytes);
     end_rows(select);
-    return history->is_known;
+    return row >= 0 ? 0 : -1;
 }
 
-struct history outbox_history(struct outbox *o, const struct session *session, uint64_t from,
-                              const struct history *history, uint64_t to)
+int outbox_history(struct outbox *o, const struct session *session, uint64_t from,
+                   const struct history *history, uint64_t to, struct history *found)
 {
-    struct history found = { .is_known = 1 };
+    *found = (struct history){ .is_known = 1 };
     if (to <= session->first)
-        return found; /* of no frames: an opening is none of them */
-    if (to <= from)
-        return *history;
-    if (read_history(o, session->name, to - 1, &found))
-        return found;
-    found = *history;
-    add_frames(o, session->name, from > session->first ? from : session->first, to, &found);
-    return found;
+        return 0; /* of no frames: an opening is none of them */
+    if (to > from && read_history(o, session->name, to - 1, found) != 0)
+        return -1;
+    if (to > from && found->is_known)
+        return 0;
+    *found = *history;
+    return add_frames(o, session->name, from > session->first ? from : session->first, to, found);
 }
 
 int outbox_set_stands(struct outbox *o, const char *session, uint32_t stands)

@@ -24,6 +24,7 @@
 #include "database.h"
 #include "history.h"
 #include "opening.h"
+#include "receipts.h"
 #include "sessions.h"
 
 /* tables/limits.toml: limits, by tools/tables */
@@ -34,7 +35,7 @@
 enum outbox_statement {
     LOAD_SESSION, SELECT_TEXTS, SELECT_WAITING, HAS_TEXT, DROP_TEXTS, SELECT_FRAMES, DROP_FRAMES,
     SELECT_HISTORY, SET_STANDS, DROP_SEALED,
-    SET_NEXT, SET_CARRIED, SELECT_OWNER, SELECT_SENDING, ADD_STOPPED, DROP_STOPPED, END_STOPPED,
+    SET_NEXT, SET_CARRIED, SELECT_OWNER, SELECT_SENDING, SELECT_STOPS, SELECT_STOP, SET_STOP, ADD_STOPPED, DROP_STOPPED, END_STOPPED,
     COUNT_STOPPED, COUNT_TEXTS,
     OLDEST_TEXT, ADD_OPENED, SELECT_OPENED, SELECT_STREAM, CLOSE_OPENED, SELECT_ENDED, DROP_OPENED, FORGET_SESSION,
     SELECT_WRAPPED, SET_RENEWED, SELECT_RENEWED, OUTBOX_STATEMENTS
@@ -48,7 +49,7 @@ struct outbox {
     sqlite3 *db;
     struct statement statements[OUTBOX_STATEMENTS];
     struct rows rows[OUTBOX_ROWS];
-    sqlite3_int64 turn; /* those who opened this outbox are counted: this is the turn'th */
+    uint64_t turn;      /* those who opened this outbox are counted: this is the turn'th */
     char path[OUTBOX_PATH]; /* where it is, and which file is there */
     uint64_t device, inode;
 };
@@ -68,6 +69,10 @@ struct outbox_progress {
     struct history history;
 };
 
+/* The receipt by which a session was stopped, since other frames than this outbox's took effect, and when it was, in
+ * seconds since 1970. It counts as long as the session has its key: it doesn't open under another one. */
+struct stop { size_t len; uint8_t receipt[RECEIPT]; uint64_t since; };
+
 /* Opens it, makes its tables, and becomes its owner. 0, or -1 after a fault. */
 int outbox_open(struct outbox *outbox, const char *path);
 void outbox_close(struct outbox *outbox);
@@ -79,29 +84,33 @@ int outbox_bound(struct outbox *outbox, unsigned texts);
 /* How far a session is: as its line says, if nothing of it was sealed yet. */
 int outbox_load(struct outbox *outbox, const struct session *session, struct outbox_progress *it);
 
-/* Passes each session that has frames to a function. What that doesn't answer 0 ends it, with -1.
- */
+/* Passes each session that has frames, or that a receipt stopped, to a function. What that doesn't answer 0 ends it,
+ * with -1. */
 typedef int outbox_take(void *given, const char *session);
 int outbox_sessions(struct outbox *outbox, outbox_take *take, void *given);
+int outbox_stops(struct outbox *outbox, outbox_take *take, void *given);
 
-/* Whether a text waits after this one, and whether this process is the owner. */
-int outbox_has_text(struct outbox *outbox, sqlite3_int64 after);
-int outbox_is_owned(struct outbox *outbox);
+/* The receipt that stopped a session, of no bytes if none did. 0, or -1 after a fault. */
+int outbox_find_stop(struct outbox *outbox, const char *session, struct stop *stop);
+
+/* Whether a text waits after this one, as far as that can be read: after a fault one may. */
+int outbox_may_have_text(struct outbox *outbox, sqlite3_int64 after);
+
+/* OUTBOX_OK, or OUTBOX_TAKEN: another process is the owner. OUTBOX_AGAIN: that can't be read now. */
+enum outbox_answer outbox_owned(struct outbox *outbox);
 
 /* Whether the file is still the one at its place. If it isn't, as where another one was put there, that
  * is reported: what this process stores is lost. */
 int outbox_is_there(const struct outbox *outbox);
 
 /* How many texts there are, of the first 100,000; when the oldest was put in, in seconds since 1970, 0
- * if there is none or it isn't known. */
-uint64_t outbox_count_texts(struct outbox *outbox);
-uint64_t outbox_oldest_text(struct outbox *outbox);
+ * if there is none or it isn't known; and how many sessions are stopped. 0, or -1 after a fault. */
+int outbox_count_texts(struct outbox *outbox, uint64_t *count);
+int outbox_oldest_text(struct outbox *outbox, uint64_t *second);
+int outbox_count_stopped(struct outbox *outbox, uint64_t *count);
 
-/* How many sessions are stopped. */
-uint64_t outbox_count_stopped(struct outbox *outbox);
-
-/* ---- Within a transaction. OUTBOX_AGAIN: another process's transaction took long. OUTBOX_TAKEN:
- * another process is the owner. */
+/* ---- Within a transaction. It begins with OUTBOX_OK; OUTBOX_AGAIN: another process's transaction took long, or who the
+ * owner is can't be read now. OUTBOX_TAKEN: another process is the owner. */
 enum outbox_answer outbox_begin(struct outbox *outbox);
 
 /* Begins with the texts after one of them, so many at most; or with those under this name up to one of them. Each call
@@ -134,8 +143,11 @@ int outbox_set_carried(struct outbox *outbox, const char *session,
                        const struct outbox_progress *it);
 int outbox_drop_done(struct outbox *outbox, const char *session, uint64_t done);
 
-/* Says that a session is stopped, and why; that it isn't; that none is. */
-int outbox_add_stopped(struct outbox *outbox, const char *session, const char *reason);
+/* Stores the receipt that stopped a session, also where nothing of it was sealed. Since when it is stopped stays. */
+int outbox_set_stop(struct outbox *outbox, const struct session *session, const struct stop *stop);
+
+/* Says that a session is stopped, why, and since when, 0 for now; that it isn't; that none is. */
+int outbox_add_stopped(struct outbox *outbox, const char *session, const char *reason, uint64_t since);
 int outbox_end_stopped(struct outbox *outbox, const char *session);
 int outbox_drop_stopped(struct outbox *outbox);
 
@@ -170,7 +182,7 @@ int outbox_forget_ended(struct outbox *outbox, const struct begun *it, struct en
 
 /* The second up to which sessions that were begun are old; in a transaction of its own: it is this
  * one. */
-uint64_t outbox_renewed(struct outbox *outbox);
+int outbox_renewed(struct outbox *outbox, uint64_t *second);
 enum outbox_answer outbox_set_renewed(struct outbox *outbox, uint64_t second);
 
 /* The same: wraps keys that aren't wrapped under the newest key. */
@@ -189,9 +201,9 @@ void outbox_end_frames(struct outbox *outbox);
 
 /* The history of all frames of a session below a number: it stands beside the last of them, or, where an older
  * version sealed that, follows from that of those below `from` and the frames since. It isn't known if one of
- * them isn't there. */
-struct history outbox_history(struct outbox *outbox, const struct session *session, uint64_t from,
-                              const struct history *history, uint64_t to);
+ * them isn't there. 0, or -1 after a fault: then it may be known, and can't be read now. */
+int outbox_history(struct outbox *outbox, const struct session *session, uint64_t from, const struct history *history,
+                   uint64_t to, struct history *found);
 
 /* In a transaction: why a session stands now, KRBRELAY_STANDS_*. */
 int outbox_set_stands(struct outbox *outbox, const char *session, uint32_t stands);

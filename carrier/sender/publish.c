@@ -42,8 +42,9 @@ static int count_anew(struct sender *s, struct sending *it)
         || krbrelay_flow_moved(&lane->flow, it->under_way, under_way) != KRBRELAY_OK)
         return 0; /* never: the numbers are the engine's own */
     it->under_way = under_way;
-    it->room = it->stopped_at == 1 || stored > STORED ? 0 : STORED - stored;
+    it->room = it->stopped_at == 1 || it->is_deaf || stored > STORED ? 0 : STORED - stored;
     count(&lane->uncarried, &s->uncarried, &it->uncarried, leaves(it) ? progress->next - progress->carried : 0);
+    count(&lane->unconfirmed, &s->unconfirmed, &it->unconfirmed, leaves(it) ? progress->sent - progress->carried : 0);
     count(&lane->unreceipted, &s->unreceipted, &it->unreceipted,
           it->stopped_at != 1 ? progress->carried - it->end.done : 0);
     return !settled && it->stopped_at != 1;
@@ -64,6 +65,8 @@ void publish_stop(struct sender *s, struct sending *it)
     if (it->stopped_at != 1)
         s->untold.at[s->untold.count++] = it;
     it->stopped_at = 1;
+    if (krbrelay_sending_reconnected(&it->end) != KRBRELAY_OK) /* its frames give up their room in the shard */
+        log_fact(LEVEL_ERROR, "progress_unknown", field_text("session", it->of.name));
     s->held -= it->is_held != 0;
     it->is_held = 0;
     (void)count_anew(s, it); /* there is nothing to do any more */
@@ -144,33 +147,52 @@ static int publish(struct sender *s, struct sending *it, uint64_t number, const 
 static int publish_opening(struct sender *s, struct sending *it)
 {
     size_t len = 0;
-    sender_note_before(s, it);
-    if (tickets_make_opening(s->tickets, s->kerberos, &it->begun->opened, s->opening, OPENING, &len) != 0)
+    if (sender_note_before(s, it) != 0
+        || tickets_make_opening(s->tickets, s->kerberos, &it->begun->opened, s->opening, OPENING, &len) != 0)
         return -1;
     return publish(s, it, 0, s->opening, len);
 }
 
-/* Publishes frames of the outbox from a number on. If one isn't there, another process has deleted it: the session
- * is loaded again. */
+/* A frame without a receipt isn't in the outbox. Where another process has deleted it, the session is loaded again; else
+ * it is lost, and the session is stopped. */
+static void note_missing(struct sender *s, struct sending *it, uint64_t number)
+{
+    struct outbox_progress row;
+    if (outbox_load(&s->outbox, &it->of, &row) != 0 || (row.done > number && sender_load(s, it) != 0))
+        return; /* which is reported: the frames leave again after their pause */
+    if (row.done > number)
+        return;
+    write_cut(it->reason, sizeof it->reason, "frame %llu isn't in the outbox any more, and no receipt says that it took"
+              " effect: was it deleted, or the file mended? The session needs a new key",
+              (unsigned long long)number);
+    publish_stop(s, it);
+}
+
+/* Publishes frames of the outbox from a number on. What can't be read now leaves after its pause, as what the carrier
+ * loses. */
 static void publish_frames(struct sender *s, struct sending *it, uint64_t from, uint64_t limit)
 {
     const uint8_t *frame;
     uint64_t number = 0, end = from + limit;
     size_t len;
-    int answer = 0, is_there = 1;
+    int answer = 0, row = 1;
     if (it->begun != NULL && from == 0 && end > 0)
         answer = publish_opening(s, it);
     from += it->begun != NULL && from == 0;
     outbox_select_frames(&s->outbox, it->of.name, from, (unsigned)limit);
-    while (answer == 0 && is_there && from < end) {
-        is_there = outbox_next_frame(&s->outbox, &number, &frame, &len) == 1 && number == from;
-        if (is_there)
+    while (answer == 0 && row == 1 && from < end) {
+        row = outbox_next_frame(&s->outbox, &number, &frame, &len);
+        if (row == 1 && number != from)
+            row = 0;
+        if (row == 1)
             answer = publish(s, it, from++, frame, len);
     }
     outbox_end_frames(&s->outbox);
-    if (!is_there && sender_load(s, it) != 0)
-        log_fact(LEVEL_ERROR, "session_unloaded", field_text("session", it->of.name),
-                 field_text("text", "the outbox has no such frame: tried again"));
+    if (row < 0)
+        log_fact(LEVEL_ERROR, "frame_unread", field_text("session", it->of.name), field_number("number", from),
+                 field_text("text", "the outbox has it, and can't be read there: tried again"));
+    if (row == 0)
+        note_missing(s, it, from);
 }
 
 /* Does what the engine says; how many frames left. */

@@ -38,11 +38,14 @@ struct sending {
     sqlite3_int64 begin;        /* of which this is the first */
     sqlite3_int64 stopped_at;   /* texts from this one on aren't taken; 0: all are */
     char reason[256];
+    uint64_t stopped_since;     /* in seconds since 1970, if a receipt stopped it before this start; or 0 */
+    struct stop *stop;          /* the receipt that stopped it, until the outbox has it; or NULL */
     int has_texts;              /* texts of it wait, up to those that were looked at: no later one is taken
                                  * before them */
-    int is_touched, is_dirty, is_sealable; /* it is in the lists of sender.h */
+    int is_touched, is_dirty, is_sealable, is_deaf; /* it is in the lists of sender.h */
+    int is_unread;              /* `history` couldn't be read: nothing is sealed before it is */
     struct krbrelay_opener receipts; /* made with the first one */
-    uint64_t under_way, uncarried, unreceipted; /* as its shard's sums have them (publish.c) */
+    uint64_t under_way, uncarried, unconfirmed, unreceipted; /* as its shard's sums have them (publish.c) */
     uint64_t left;              /* the frames below have left before */
     uint64_t wakes;             /* when it is looked at, in milliseconds; UINT64_MAX: not by itself */
     uint32_t stands, stands_now; /* why it stands, as the outbox has it, and now: KRBRELAY_STANDS_* */

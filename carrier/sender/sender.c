@@ -20,11 +20,11 @@ enum {
 
 /* ---- Sessions */
 
-int sender_tell_stopped(struct sender *s, const char *session, const char *reason)
+int sender_tell_stopped(struct sender *s, const char *session, const char *reason, uint64_t since)
 {
     log_fact(LEVEL_ERROR, "session_stopped", field_text("session", session),
              field_text("text", reason));
-    return outbox_add_stopped(&s->outbox, session, reason);
+    return outbox_add_stopped(&s->outbox, session, reason, since);
 }
 
 enum outbox_answer sender_stop(struct sender *s, const char *session, const char *reason)
@@ -32,7 +32,7 @@ enum outbox_answer sender_stop(struct sender *s, const char *session, const char
     enum outbox_answer begun = outbox_begin(&s->outbox);
     if (begun != OUTBOX_OK)
         return begun;
-    if (sender_tell_stopped(s, session, reason) == 0 && outbox_commit(&s->outbox) == 0)
+    if (sender_tell_stopped(s, session, reason, 0) == 0 && outbox_commit(&s->outbox) == 0)
         return OUTBOX_OK;
     outbox_rollback(&s->outbox);
     return OUTBOX_AGAIN;
@@ -85,15 +85,14 @@ static enum seal_answer keep_sealed(struct sender *s)
     return answer;
 }
 
-/* What is stored of a session that has gone on. */
-static struct outbox_progress reached(struct sender *s, const struct sending *it)
+/* What is stored of a session that has gone on: 0, or -1 after a fault. */
+static int reached(struct sender *s, const struct sending *it, struct outbox_progress *now)
 {
     const struct krbrelay_sending *end = &it->end;
-    struct outbox_progress now = { .next = it->kept.next, .carried = end->progress.carried, .done = end->done,
-                                   .at = end->progress.at, .incarnation = end->list,
-                                   .shard = (int32_t)it->of.shard };
-    now.history = outbox_history(&s->outbox, &it->of, it->kept.done, &it->kept.history, end->done);
-    return now;
+    *now = (struct outbox_progress){ .next = it->kept.next, .carried = end->progress.carried, .done = end->done,
+                                     .at = end->progress.at, .incarnation = end->list,
+                                     .shard = (int32_t)it->of.shard };
+    return outbox_history(&s->outbox, &it->of, it->kept.done, &it->kept.history, end->done, &now->history);
 }
 
 /* Stores how far sessions are. */
@@ -102,8 +101,8 @@ static enum seal_answer keep_dirty(struct sender *s)
     size_t i;
     for (i = 0; i < s->dirty.count; i++) {
         struct sending *it = s->dirty.at[i];
-        struct outbox_progress now = reached(s, it);
-        if (outbox_set_carried(&s->outbox, it->of.name, &now) != 0
+        struct outbox_progress now;
+        if (reached(s, it, &now) != 0 || outbox_set_carried(&s->outbox, it->of.name, &now) != 0
             || (now.done > it->kept.done && outbox_drop_done(&s->outbox, it->of.name, now.done) != 0))
             return SEAL_FAULT;
         it->next_kept = now;
@@ -151,9 +150,7 @@ static void give_up(struct sender *s, sqlite3_int64 seen)
     texts_give_up(s, seen);
     for (i = 0; i < s->touched.count; i++) {
         struct sending *it = s->touched.at[i];
-        const struct history history = outbox_history(&s->outbox, &it->of, it->kept.done, &it->kept.history,
-                                                      it->end.progress.next);
-        seal_reset(it, &history);
+        (void)sender_read_history(s, it); /* where it can't be read now, it is before the next text is sealed */
         sender_note_renewed(it, 0);
         it->is_touched = 0;
         publish_note(s, it);
@@ -180,6 +177,7 @@ static enum outbox_answer store(struct sender *s, int with_texts)
         note_kept(s);
         return OUTBOX_OK;
     }
+    s->is_unknown = answer == SEAL_OK; /* the commit may have happened */
     give_up(s, seen);
     if (answer == SEAL_STOP)
         return sender_stop(s, s->sealing.stopped->of.name, s->sealing.stopped->reason);
@@ -189,11 +187,21 @@ static enum outbox_answer store(struct sender *s, int with_texts)
 
 /* ---- One round */
 
+/* How many frames wait for the carrier alone: they left and aren't confirmed, or their shard can't be had. */
+static uint64_t awaited(const struct sender *s)
+{
+    uint64_t frames = 0;
+    size_t i;
+    for (i = 0; i < s->lane_count; i++)
+        frames += s->lanes[i].flow.has_list ? s->lanes[i].unconfirmed : s->lanes[i].uncarried;
+    return frames;
+}
+
 /* Reports, each ten seconds, that nothing is carried though frames wait. That the connection is away is
  * shown where none waits, too. */
 static void report_silence(struct sender *s, size_t rose)
 {
-    uint64_t backlog = s->uncarried, now = nanoseconds();
+    uint64_t backlog = awaited(s), now = nanoseconds();
     if (rose > 0 || (backlog == 0 && !s->carrier->is_away(s->carrier)))
         s->rose = now;
     if (rose > 0 || backlog == 0)
@@ -212,8 +220,8 @@ static enum outbox_answer look_at_sessions(struct sender *s)
     enum outbox_answer begun;
     if (s->newer == NULL)
         s->newer = sessions_read_again(s->sessions);
-    if (s->newer == NULL)
-        return OUTBOX_OK;
+    if (s->newer == NULL || s->untold.count > 0)
+        return OUTBOX_OK; /* what stopped a session is stored first */
     begun = outbox_begin(&s->outbox);
     if (begun != OUTBOX_OK)
         return begun;
@@ -225,7 +233,7 @@ static enum outbox_answer look_at_sessions(struct sender *s)
     sessions_forget(s->sessions);
     s->sessions = s->newer;
     s->newer = NULL;
-    return sender_begin(s) == 0 ? OUTBOX_OK : OUTBOX_FAULT;
+    return OUTBOX_OK;
 }
 
 /* After a SIGHUP the sessions that were begun so far are old. */
@@ -257,9 +265,18 @@ static int keep_changed_stands(struct sender *s)
             continue;
         if (outbox_set_stands(&s->outbox, it->of.name, it->stands_now) != 0)
             return -1;
-        it->stands = it->stands_now;
     }
     return 0;
+}
+
+static void note_stands(struct sender *s)
+{
+    size_t i;
+    for (i = 0; i < s->all.count; i++) {
+        struct sending *it = s->all.at[i];
+        if (it->is_stored)
+            it->stands = it->stands_now;
+    }
 }
 
 /* Whether it is a session of a stream that goes on with another one, and nothing of it waits for a receipt. */
@@ -276,7 +293,7 @@ static enum outbox_answer forget_ended(struct sender *s)
     size_t i, ended = 0;
     for (i = 0; i < s->all.count; i++)
         ended += has_ended(s->all.at[i]) != 0;
-    if (ended < FORGOTTEN || 2 * ended < s->all.count || s->untold.count > 0)
+    if (ended < FORGOTTEN || 2 * ended < s->all.count || s->untold.count > 0 || !s->has_begun || s->is_unknown)
         return OUTBOX_OK;
     answer = store(s, 0);
     if (answer != OUTBOX_OK)
@@ -284,7 +301,7 @@ static enum outbox_answer forget_ended(struct sender *s)
     log_fact(LEVEL_INFO, "sessions_forgotten", field_number("ended", ended),
              field_number("others", s->all.count - ended));
     sender_forget(s);
-    return sender_begin(s) == 0 ? OUTBOX_OK : OUTBOX_FAULT;
+    return OUTBOX_OK;
 }
 
 static enum outbox_answer keep_stands(struct sender *s)
@@ -305,8 +322,10 @@ static enum outbox_answer keep_stands(struct sender *s)
     begun = changed > 0 ? outbox_begin(&s->outbox) : OUTBOX_OK;
     if (changed == 0 || begun != OUTBOX_OK)
         return begun;
-    if (keep_changed_stands(s) == 0 && outbox_commit(&s->outbox) == 0)
+    if (keep_changed_stands(s) == 0 && outbox_commit(&s->outbox) == 0) {
+        note_stands(s);
         return OUTBOX_OK;
+    }
     outbox_rollback(&s->outbox);
     return OUTBOX_AGAIN;
 }
@@ -321,8 +340,9 @@ static enum outbox_answer look(struct sender *s)
     s->looked = nanoseconds();
     sender_show(s);
     service_tell_alive();
-    if (!outbox_is_owned(&s->outbox))
-        return OUTBOX_TAKEN;
+    answer = outbox_owned(&s->outbox);
+    if (answer != OUTBOX_OK)
+        return answer == OUTBOX_AGAIN ? OUTBOX_OK : answer;
     if (!outbox_is_there(&s->outbox) || s->carrier->is_closed(s->carrier))
         return OUTBOX_FAULT; /* which is reported: a unit starts this program again */
     answer = keep_stands(s);
@@ -330,8 +350,8 @@ static enum outbox_answer look(struct sender *s)
         answer = look_at_sessions(s);
     if (answer == OUTBOX_OK)
         answer = forget_ended(s);
-    if (answer == OUTBOX_OK && sender_try_left(s) != 0)
-        answer = OUTBOX_FAULT;
+    if (answer == OUTBOX_OK)
+        sender_try_left(s);
     if (answer == OUTBOX_OK && s->kerberos != NULL)
         answer = look_at_hangups(s);
     return answer == OUTBOX_AGAIN ? OUTBOX_OK : answer; /* then in a second */
@@ -350,7 +370,24 @@ static int may_get_tickets(struct sender *s)
 static int is_drained(struct sender *s, int texts)
 {
     return s->options.drain && !texts && s->uncarried == 0 && s->dirty.count == 0 && s->untold.count == 0
-           && !may_get_tickets(s);
+           && s->deaf.count == 0 && !may_get_tickets(s);
+}
+
+/* Tells that a session is stopped, and stores the receipt that did it. */
+static enum outbox_answer tell_stop(struct sender *s, struct sending *it)
+{
+    enum outbox_answer begun = outbox_begin(&s->outbox);
+    if (begun != OUTBOX_OK)
+        return begun;
+    if (sender_tell_stopped(s, it->of.name, it->reason, it->stopped_since) != 0
+        || (it->stop != NULL && outbox_set_stop(&s->outbox, &it->of, it->stop) != 0)
+        || outbox_commit(&s->outbox) != 0) {
+        outbox_rollback(&s->outbox);
+        return OUTBOX_AGAIN;
+    }
+    free(it->stop);
+    it->stop = NULL;
+    return OUTBOX_OK;
 }
 
 /* Tells which sessions are stopped. */
@@ -358,24 +395,42 @@ static enum outbox_answer tell_untold(struct sender *s)
 {
     enum outbox_answer answer = OUTBOX_OK;
     while (s->untold.count > 0 && answer == OUTBOX_OK) {
-        const struct sending *it = s->untold.at[s->untold.count - 1];
-        answer = sender_stop(s, it->of.name, it->reason);
+        answer = tell_stop(s, s->untold.at[s->untold.count - 1]);
         s->untold.count -= answer == OUTBOX_OK;
     }
     return answer == OUTBOX_AGAIN ? OUTBOX_OK : answer;
 }
 
-int sender_step(struct sender *s, enum outbox_answer *answer)
+/* Loads the sessions, once the last receipts were read and what stopped sessions is stored: at the start, where the file
+ * of sessions has changed, and where it isn't known what is stored. 1 once they are loaded. */
+static int have_begun(struct sender *s)
+{
+    uint64_t now = nanoseconds();
+    if (s->has_begun && !s->is_unknown)
+        return 1;
+    if (!s->has_heard)
+        receipts_hear(s);
+    if (!s->has_heard && now - s->told >= SILENCE) {
+        log_fact(LEVEL_WARNING, "receipts_unread", field_text("text", "the last receipts of all sessions can't be read:"
+                 " nothing is sealed, and nothing leaves, until they are"));
+        s->told = now;
+    }
+    if (!s->has_heard || s->untold.count > 0 || now < s->begins)
+        return 0;
+    if (s->is_unknown)
+        sender_forget(s);
+    s->is_unknown = 0;
+    s->has_begun = sender_begin(s) == 0;
+    s->begins = now + SECOND;
+    return s->has_begun;
+}
+
+/* Stores what waits, and publishes what is stored. 1 if all is done that can be. */
+static int relay(struct sender *s, enum outbox_answer *answer)
 {
     uint64_t began = nanoseconds(), sealing = s->sealing.nanoseconds;
     size_t rose;
-    int texts, has_more;
-    *answer = look(s);
-    if (*answer == OUTBOX_OK)
-        *answer = tell_untold(s);
-    if (*answer < 0)
-        return 1;
-    texts = texts_wait(s);
+    int has_more, texts = texts_wait(s);
     if (is_drained(s, texts))
         return 1;
     if (texts || (s->dirty.count > 0 && milliseconds() - s->kept_moment >= KEPT))
@@ -391,6 +446,21 @@ int sender_step(struct sender *s, enum outbox_answer *answer)
     s->carrying += nanoseconds() - began;
     if (!texts && rose == 0 && !has_more)
         pause_milliseconds(1);
+    return 0;
+}
+
+int sender_step(struct sender *s, enum outbox_answer *answer)
+{
+    *answer = look(s);
+    if (*answer == OUTBOX_OK)
+        *answer = tell_untold(s);
+    if (*answer >= 0 && s->has_lost)
+        *answer = OUTBOX_FAULT; /* there was no memory for a receipt: it is read at the next start */
+    if (*answer < 0)
+        return 1;
+    if (have_begun(s))
+        return relay(s, answer);
+    pause_milliseconds(IDLE);
     return 0;
 }
 
@@ -429,12 +499,7 @@ int sender_open(struct sender *s)
         return -1;
     if (s->kerberos != NULL && outbox_wrap_anew(&s->outbox, s->kerberos) != 0)
         return -1;
-    s->renew = outbox_renewed(&s->outbox);
-    receipts_hear(s); /* before anything is sealed */
-    s->has_begun = 1;
-    if (sender_begin(s) != 0)
-        return -1;
-    if (sender_begin_showing() != 0)
+    if (outbox_renewed(&s->outbox, &s->renew) != 0 || sender_begin_showing() != 0)
         return -1;
     if (s->options.metrics != NULL && service_listen(s->options.metrics) != 0)
         return -1;

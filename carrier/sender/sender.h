@@ -34,7 +34,7 @@ struct lane {
     struct list members;         /* its sessions, by their places */
     struct krbrelay_flow flow;   /* the list to which frames are published, and how many are under way */
     struct krbrelay_queue queue; /* whose turn it is */
-    uint64_t uncarried, unreceipted; /* frames of its sessions, as of all */
+    uint64_t uncarried, unconfirmed, unreceipted; /* frames of its sessions, as of all */
 };
 
 /* A time at which a session is looked at. */
@@ -74,15 +74,21 @@ struct sender {
     struct list dirty;          /* whose progress isn't stored */
     struct list untold;         /* that are stopped, and the outbox doesn't say so yet */
     struct list sealable;       /* with texts that wait, of which some may be sealed now */
+    struct list deaf;           /* with receipts that can't be heard now */
     struct wake *wakes;         /* a heap of times, */
     size_t wake_count, wake_room;
     void *kept;                 /* tsearch's tree of the receipts that were there at the start, of sessions that
-                                 * weren't loaded since */
-    int has_begun;
+                                 * weren't loaded since, and of those that can't be heard now */
+    struct stop *spare;         /* room for the next receipt that stops a session, or NULL */
+    int has_heard;              /* the last receipts of all sessions were read, */
+    int has_lost;               /* and for one of them there was no memory */
+    int has_begun;              /* the sessions are loaded: before, nothing is sealed, and nothing leaves */
+    uint64_t begins;            /* at this moment that is tried again */
+    int is_unknown;             /* a transaction may have been stored or not: the sessions are loaded anew */
     char unknown[CARRIER_NAME]; /* the last session without a line that was reported */
     unsigned long published, again, receipts;
-    uint64_t uncarried, unreceipted; /* frames of all sessions that aren't carried, or are and wait for a
-                                 * receipt */
+    uint64_t uncarried, unconfirmed, unreceipted; /* frames of all sessions that aren't carried; that have left, and
+                                 * aren't confirmed; that are carried, and wait for a receipt */
     size_t held, standing;      /* sessions that are held (seal.h); that stand */
     uint64_t kept_moment;       /* when the outbox was written last, in milliseconds */
     uint64_t heard;             /* it was looked for receipts at this moment */
@@ -103,8 +109,8 @@ int sender_step(struct sender *s, enum outbox_answer *answer);
 
 void sender_close(struct sender *s);
 
-/* Tells in the outbox and in the log that a session is stopped. In a transaction. */
-int sender_tell_stopped(struct sender *s, const char *session, const char *reason);
+/* Tells in the outbox and in the log that a session is stopped, and since when, 0 for now. In a transaction. */
+int sender_tell_stopped(struct sender *s, const char *session, const char *reason, uint64_t since);
 
 /* The same in a transaction of its own. */
 enum outbox_answer sender_stop(struct sender *s, const char *session, const char *reason);
@@ -121,11 +127,14 @@ struct sending *sender_add(struct sender *s, const struct session *of);
  * transaction. */
 int sender_find(struct sender *s, const char *name, struct sending **it);
 
-/* Makes a session what the outbox has. */
+/* Makes a session what the outbox has: 0, or -1 after a fault. */
 int sender_load(struct sender *s, struct sending *it);
 
-/* Loads the sessions that have frames, and tells those that have no line or whose key can't be read;
- * forgets all. */
+/* Makes its history that of the frames that the outbox has: 0, or -1 where it can't be read now. */
+int sender_read_history(struct sender *s, struct sending *it);
+
+/* Loads the sessions that have frames or that a receipt stopped, and tells those that have no line or whose key can't be
+ * read: 0, or -1 after a fault. Forgets all, so that they are loaded anew. */
 int sender_begin(struct sender *s);
 void sender_forget(struct sender *s);
 
@@ -142,8 +151,8 @@ int sender_is_old(const struct sender *s, const struct sending *it);
 /* Whether frames of the session before it in its stream aren't carried. */
 int sender_is_after(const struct sender *s, const struct sending *it);
 
-/* Notes in what its opening says the history of the session before it, if that is known. */
-void sender_note_before(struct sender *s, struct sending *it);
+/* Notes in what its opening says the history of the session before it, if that is known: 0, or -1 after a fault. */
+int sender_note_before(struct sender *s, struct sending *it);
 
 /* Closes it, and gives the next one. `id` is the text's. Where the keytab can't be read, it goes on as it is. Within a
  * transaction, after which sender_note_renewed is called of each session from which something was sealed. */
@@ -155,8 +164,8 @@ void sender_forget_streams(struct sender *s);
 /* A key couldn't be read: it is tried again after some seconds, and then ever more rarely. */
 void sender_note_left(struct sender *s);
 
-/* Tries those that are due: their texts are looked at again, in their order. 0, or -1 after a fault. */
-int sender_try_left(struct sender *s);
+/* Tries those that are due: their texts are looked at again, in their order. */
+void sender_try_left(struct sender *s);
 
 /* ---- texts.c */
 
@@ -185,11 +194,15 @@ void publish_stop(struct sender *s, struct sending *it);
 
 /* ---- sender_receipts.c */
 
+/* What came of a receipt: the more, the later it stands here. HEARD_FAULT: it can't be heard now. */
+enum heard { HEARD_NOTHING, HEARD_DELIVERED, HEARD_STOPS, HEARD_FAULT };
+
 /* Takes the receipts that came. At the start those of sessions that aren't loaded are kept until they are. */
 void receipts_hear(struct sender *s);
 
-/* Takes the one that was kept for a session. */
-void receipts_take_kept(struct sender *s, struct sending *it);
+/* Has a session hear what is kept for it, before it is in the lists above; then what came of that is noted. */
+enum heard receipts_hear_kept(struct sender *s, struct sending *it);
+void receipts_note(struct sender *s, struct sending *it, enum heard heard);
 void receipts_forget(struct sender *s);
 
 /* ---- sender_report.c: the sender is the first part of service.h, its shards are the others. */

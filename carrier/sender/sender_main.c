@@ -62,7 +62,9 @@ static int work(struct sender *s)
         log_fact(LEVEL_ERROR, "outbox_taken", field_text("file", s->options.outbox),
                  field_text("text", "another sender has taken it over: this one ends"));
     held = s->held;
-    stopped = s->outbox.db != NULL ? outbox_count_stopped(&s->outbox) : 0;
+    stopped = 0;
+    if (s->outbox.db != NULL && outbox_count_stopped(&s->outbox, &stopped) != 0 && answer >= 0)
+        answer = OUTBOX_FAULT; /* whether all could be sent isn't known */
     sender_close(s);
     log_end();
     if (answer < 0)

@@ -1,6 +1,10 @@
 /* What a sender hears by receipts (receipts.h): krb_engine says what each means. The frames below a receipt's n
  * took effect, and are deleted from the outbox; or the session is stopped, since these were other frames than
- * this outbox's; and what a receiver asks for leaves again. */
+ * this outbox's; and what a receiver asks for leaves again.
+ *
+ * A receipt that can't be compared now, as where the outbox can't be read, is kept and heard later: until then nothing
+ * of its session is sealed. The receipt that stops a session is stored in the outbox, and heard again whenever the
+ * session is loaded. */
 #include "receipts.h"
 #include "clock.h"
 #include "log.h"
@@ -13,8 +17,8 @@
 
 #define PAUSE UINT64_C(20000000) /* nanoseconds between two looks for receipts */
 
-/* The session's texts stay in the outbox, and nothing of it leaves any more. */
-static void stop(struct sender *s, struct sending *it, uint64_t n)
+/* Why a session is stopped whose texts stay in the outbox, and of which nothing leaves any more. */
+static void write_reason(struct sending *it, uint64_t n)
 {
     if (it->end.ended == KRBRELAY_ENDED_OLDER)
         write_cut(it->reason, sizeof it->reason, "this outbox is older than what has left: it goes on at"
@@ -25,47 +29,81 @@ static void stop(struct sender *s, struct sending *it, uint64_t n)
                   " this outbox: it is an older copy, or another copy of it is used: the session needs a new"
                   " key, and texts from number %llu on may not have taken effect", (unsigned long long)n,
                   (unsigned long long)it->end.done);
-    publish_stop(s, it);
 }
 
-/* The digest of this outbox's own frames below a receipt's number, where both ends know theirs. */
-static struct history own_of(struct sender *s, const struct sending *it, const struct receipt *receipt)
+/* The digest of this outbox's own frames below a receipt's number; what the receipt says, where one of both ends knows
+ * none. 0, or -1 where it can't be read now. */
+static int own_of(struct sender *s, const struct sending *it, const struct receipt *receipt, struct history *own)
 {
-    struct history own = { .is_known = 0 };
-    if (receipt->history.is_known && receipt->n > it->end.done && receipt->n <= it->end.progress.next)
-        own = outbox_history(&s->outbox, &it->of, it->kept.done, &it->kept.history, receipt->n);
-    return own.is_known ? own : receipt->history;
+    *own = receipt->history;
+    if (!receipt->history.is_known || receipt->n <= it->end.done || receipt->n > it->end.progress.next)
+        return 0;
+    if (outbox_history(&s->outbox, &it->of, it->kept.done, &it->kept.history, receipt->n, own) != 0)
+        return -1;
+    if (!own->is_known)
+        *own = receipt->history;
+    return 0;
 }
 
-/* A receipt of a session that is loaded. */
-static void take(struct sender *s, struct sending *it, const uint8_t *bytes, size_t len)
+/* Room for the receipt that stops a session, which is had before one can. */
+static int has_spare(struct sender *s)
+{
+    if (s->spare == NULL)
+        s->spare = malloc(sizeof *s->spare);
+    if (s->spare == NULL)
+        log_system("out_of_memory", "receipts");
+    return s->spare != NULL;
+}
+
+static void keep_stop(struct sender *s, struct sending *it, const uint8_t *bytes, size_t len)
+{
+    *s->spare = (struct stop){ .len = len };
+    memcpy(s->spare->receipt, bytes, len);
+    free(it->stop);
+    it->stop = s->spare;
+    s->spare = NULL;
+}
+
+/* What a receipt changes of a session's end alone: the lists of the sender stay as they are. */
+static enum heard hear_receipt(struct sender *s, struct sending *it, const uint8_t *bytes, size_t len)
 {
     struct krbrelay_receipt said = { .asks = 0 };
     struct receipt receipt = { .n = 0 };
     struct history own;
     uint32_t heard = KRBRELAY_HEARD_NOTHING;
-    if (it->stopped_at == 1 || !receipt_open(&it->of, &it->receipts, bytes, len, &receipt))
-        return;
-    own = own_of(s, it, &receipt);
+    enum receipt_answer read = has_spare(s) ? receipt_open(&it->of, &it->receipts, bytes, len, &receipt) : RECEIPT_FAULT;
+    if (read == RECEIPT_NONE)
+        return HEARD_NOTHING;
+    if (read == RECEIPT_FAULT || own_of(s, it, &receipt, &own) != 0)
+        return HEARD_FAULT;
     said.number = receipt.n;
     said.asks = receipt.asks;
     memcpy(said.history, receipt.history.bytes, sizeof said.history);
     if (krbrelay_sending_receipt(&it->end, &said, own.bytes, milliseconds(), &heard) != KRBRELAY_OK)
-        return;
-    if (heard == KRBRELAY_HEARD_ENDED) {
-        stop(s, it, receipt.n);
+        return HEARD_NOTHING;
+    if (heard != KRBRELAY_HEARD_ENDED)
+        return heard == KRBRELAY_HEARD_DELIVERED ? HEARD_DELIVERED : HEARD_NOTHING;
+    write_reason(it, receipt.n);
+    keep_stop(s, it, bytes, len);
+    return HEARD_STOPS;
+}
+
+void receipts_note(struct sender *s, struct sending *it, enum heard heard)
+{
+    if (heard == HEARD_STOPS) {
+        publish_stop(s, it);
         return;
     }
-    if (heard == KRBRELAY_HEARD_DELIVERED) {
+    if (heard == HEARD_DELIVERED) {
         s->receipts++;
         list_add(&s->dirty, it, &it->is_dirty);
     }
     publish_note(s, it);
 }
 
-/* ---- Receipts that came before their session was loaded */
+/* ---- Receipts that are kept, until their session is loaded or they can be heard */
 
-struct kept { char name[CARRIER_NAME]; size_t len; uint8_t bytes[]; };
+struct kept { char name[CARRIER_NAME]; struct kept *next; size_t len; uint8_t bytes[]; };
 
 /* Whether this sender may have the session: others hear of theirs. */
 static int may_have(const struct sender *s, const char *name)
@@ -76,38 +114,103 @@ static int may_have(const struct sender *s, const char *name)
     return has_line || (s->kerberos != NULL && sessions_may_have(name));
 }
 
-static void keep(struct sender *s, const char *name, const uint8_t *bytes, size_t len)
+static struct kept *find_kept(const struct sender *s, const char *name)
 {
-    struct kept *it;
-    if (s->has_begun || len > RECEIPT || strlen(name) >= sizeof it->name || !may_have(s, name))
-        return;
-    it = calloc(1, sizeof *it + len);
-    if (it == NULL) {
-        log_system("out_of_memory", "receipts"); /* its session probes for the next one */
-        return;
+    void *found = tfind(name, &s->kept, by_name);
+    return found != NULL ? *(struct kept **)found : NULL;
+}
+
+static void forget_kept(struct kept *kept)
+{
+    while (kept != NULL) {
+        struct kept *next = kept->next;
+        free(kept);
+        kept = next;
     }
+}
+
+static void forget_node(void *node)
+{
+    forget_kept(node);
+}
+
+/* Keeps one more of a session: a carrier has several where the session was in several shards. 0, or -1 if there is no
+ * memory. */
+static int keep(struct sender *s, const char *name, const uint8_t *bytes, size_t len)
+{
+    struct kept *it, *first = find_kept(s, name);
+    if (len > RECEIPT || strlen(name) >= sizeof it->name)
+        return 0; /* it is none */
+    it = calloc(1, sizeof *it + len);
+    if (it == NULL)
+        return -1;
     memcpy(it->name, name, strlen(name));
     memcpy(it->bytes, bytes, len);
     it->len = len;
-    if (tsearch(it, &s->kept, by_name) == NULL || *(struct kept **)tfind(name, &s->kept, by_name) != it)
-        free(it); /* one was kept before, or there is no memory: the session probes for the next one */
+    if (first != NULL) {
+        it->next = first->next;
+        first->next = it;
+        return 0;
+    }
+    if (tsearch(it, &s->kept, by_name) != NULL)
+        return 0;
+    free(it);
+    return -1;
 }
 
-void receipts_take_kept(struct sender *s, struct sending *it)
+/* The one that stopped the session before, as the outbox has it. */
+static enum heard hear_stop(struct sender *s, struct sending *it)
 {
-    void *found = tfind(it->of.name, &s->kept, by_name);
-    struct kept *kept = found != NULL ? *(struct kept **)found : NULL;
-    if (kept == NULL)
-        return;
-    take(s, it, kept->bytes, kept->len);
-    (void)tdelete(kept, &s->kept, by_name); /* it was found */
-    free(kept);
+    struct stop stop;
+    enum heard heard;
+    if (outbox_find_stop(&s->outbox, it->of.name, &stop) != 0)
+        return HEARD_FAULT;
+    heard = stop.len > 0 ? hear_receipt(s, it, stop.receipt, stop.len) : HEARD_NOTHING;
+    if (heard == HEARD_STOPS)
+        it->stopped_since = stop.since;
+    return heard;
+}
+
+enum heard receipts_hear_kept(struct sender *s, struct sending *it)
+{
+    struct kept *first = find_kept(s, it->of.name), *kept;
+    enum heard most = hear_stop(s, it);
+    for (kept = first; kept != NULL && most < HEARD_STOPS; kept = kept->next) {
+        enum heard heard = hear_receipt(s, it, kept->bytes, kept->len);
+        most = heard > most ? heard : most;
+    }
+    if (first == NULL || most == HEARD_FAULT)
+        return most;
+    (void)tdelete(first, &s->kept, by_name); /* it was found */
+    forget_kept(first);
+    return most;
 }
 
 void receipts_forget(struct sender *s)
 {
-    tdestroy(s->kept, free);
+    tdestroy(s->kept, forget_node);
     s->kept = NULL;
+    free(s->spare);
+    s->spare = NULL;
+}
+
+/* ---- Receipts that come */
+
+/* A receipt of a session that is loaded. */
+static void take(struct sender *s, struct sending *it, const uint8_t *bytes, size_t len)
+{
+    enum heard heard = HEARD_FAULT;
+    if (it->stopped_at == 1)
+        return;
+    if (!it->is_deaf)
+        heard = hear_receipt(s, it, bytes, len);
+    if (heard != HEARD_FAULT) {
+        receipts_note(s, it, heard);
+        return;
+    }
+    list_add(&s->deaf, it, &it->is_deaf);
+    if (keep(s, it->of.name, bytes, len) != 0)
+        log_system("out_of_memory", "receipts"); /* its session probes for the next one */
 }
 
 static void hear(void *given, const char *name, const uint8_t *bytes, size_t len)
@@ -116,8 +219,24 @@ static void hear(void *given, const char *name, const uint8_t *bytes, size_t len
     void *found = tfind(name, &s->by_name, by_name);
     if (found != NULL)
         take(s, *(struct sending **)found, bytes, len);
-    else
-        keep(s, name, bytes, len);
+    else if (!s->has_heard && may_have(s, name) && keep(s, name, bytes, len) != 0)
+        s->has_lost = 1;
+}
+
+/* Those that couldn't be heard when they came. */
+static void hear_again(struct sender *s)
+{
+    size_t i, left = 0;
+    for (i = 0; i < s->deaf.count; i++) {
+        struct sending *it = s->deaf.at[i];
+        enum heard heard = it->stopped_at == 1 ? HEARD_NOTHING : receipts_hear_kept(s, it);
+        it->is_deaf = heard == HEARD_FAULT;
+        if (it->is_deaf)
+            s->deaf.at[left++] = it;
+        else
+            receipts_note(s, it, heard);
+    }
+    s->deaf.count = left;
 }
 
 void receipts_hear(struct sender *s)
@@ -125,6 +244,9 @@ void receipts_hear(struct sender *s)
     if (nanoseconds() - s->heard < PAUSE)
         return;
     s->heard = nanoseconds();
+    hear_again(s);
     if (s->carrier->receipts(s->carrier, hear, s) != 0)
         s->heard += UINT64_C(1000000000); /* which is reported */
+    else
+        s->has_heard = 1;
 }

@@ -52,24 +52,33 @@ static void show_lane(const struct lane *lane, unsigned part)
 }
 
 /* How long the oldest text has waited, 0 if none waits; NAN if that isn't known. */
-static double age_of_oldest(struct sender *s, uint64_t texts)
+static double age_of_oldest(struct sender *s, double texts)
 {
-    uint64_t since = texts > 0 ? outbox_oldest_text(&s->outbox) : 0, now = read_clock().seconds;
-    if (texts > 0 && since == 0)
+    uint64_t since = 0, now = read_clock().seconds;
+    if (texts == 0)
+        return 0;
+    if (outbox_oldest_text(&s->outbox, &since) != 0 || since == 0)
         return NAN;
-    return since > 0 && now > since ? (double)(now - since) : 0;
+    return now > since ? (double)(now - since) : 0;
+}
+
+/* What the outbox counts, or NAN if it can't be read now. */
+static double counted(struct sender *s, int (*count)(struct outbox *, uint64_t *))
+{
+    uint64_t found = 0;
+    return count(&s->outbox, &found) == 0 ? (double)found : NAN;
 }
 
 void sender_show(struct sender *s)
 {
-    uint64_t texts = outbox_count_texts(&s->outbox);
+    double texts = counted(s, outbox_count_texts);
     double silent = (double)(nanoseconds() - s->rose) / 1e9;
     const double values[METRICS] = {
         (double)s->sealing.frames, (double)s->published, (double)s->again,
         (double)s->sealing.nanoseconds / 1e9, (double)s->storing / 1e9, (double)s->carrying / 1e9,
-        (double)texts, (double)s->options.most_waiting, age_of_oldest(s, texts), (double)s->receipts,
+        texts, (double)s->options.most_waiting, age_of_oldest(s, texts), (double)s->receipts,
         (double)s->unreceipted, (double)s->held, (double)s->standing,
-        (double)outbox_count_stopped(&s->outbox), silent, NAN,
+        counted(s, outbox_count_stopped), silent, NAN,
     };
     unsigned i;
     service_alive(0, silent < SILENCE, "", values);

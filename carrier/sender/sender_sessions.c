@@ -12,7 +12,7 @@
 /* Room for one more session in each list. */
 static int grow(struct sender *s, struct lane *lane)
 {
-    struct list *const lists[] = { &s->all, &s->touched, &s->dirty, &s->sealable, &s->untold };
+    struct list *const lists[] = { &s->all, &s->touched, &s->dirty, &s->sealable, &s->untold, &s->deaf };
     size_t i;
     for (i = 0; i < sizeof lists / sizeof *lists; i++)
         if (!list_grow(lists[i], s->all.count))
@@ -38,6 +38,7 @@ static void free_sending(struct sending *it)
         explicit_bzero(it->begun, sizeof *it->begun);
     free(it->begun);
     free(it->wrapped);
+    free(it->stop);
     explicit_bzero(it, sizeof *it);
     free(it);
 }
@@ -47,6 +48,7 @@ struct sending *sender_add(struct sender *s, const struct session *of)
     size_t place = lane_of(s, of->shard);
     struct lane *lane = &s->lanes[place];
     struct sending *it = grow(s, lane) ? calloc(1, sizeof *it) : NULL;
+    enum heard heard = HEARD_FAULT;
     if (it == NULL)
         return NULL;
     it->of = *of;
@@ -55,11 +57,12 @@ struct sending *sender_add(struct sender *s, const struct session *of)
     it->tag = s->first_tag + (uint32_t)s->all.count;
     it->wakes = UINT64_MAX;
     it->is_stored = 1; /* but of a stream's session that begins now */
-    if (tsearch(it, &s->by_name, by_name) != NULL && sender_load(s, it) == 0) {
+    if (tsearch(it, &s->by_name, by_name) != NULL && sender_load(s, it) == 0)
+        heard = receipts_hear_kept(s, it);
+    if (heard != HEARD_FAULT) {
         s->all.at[s->all.count++] = it;
         lane->members.at[lane->members.count++] = it;
-        receipts_take_kept(s, it);
-        publish_note(s, it);
+        receipts_note(s, it, heard);
         return it;
     }
     (void)tdelete(it, &s->by_name, by_name); /* NULL if it isn't there */
@@ -70,7 +73,6 @@ struct sending *sender_add(struct sender *s, const struct session *of)
 int sender_load(struct sender *s, struct sending *it)
 {
     struct outbox_progress *kept = &it->kept;
-    struct history history;
     int is_elsewhere;
     if (outbox_load(&s->outbox, &it->of, kept) != 0)
         return -1;
@@ -84,9 +86,16 @@ int sender_load(struct sender *s, struct sending *it)
         return -1;
     }
     it->stands = kept->stands;
-    history = outbox_history(&s->outbox, &it->of, kept->done, &kept->history, kept->next);
+    return sender_read_history(s, it);
+}
+
+int sender_read_history(struct sender *s, struct sending *it)
+{
+    struct history history = { .is_known = 0 };
+    it->is_unread = outbox_history(&s->outbox, &it->of, it->kept.done, &it->kept.history, it->end.progress.next,
+                                   &history) != 0;
     seal_reset(it, &history);
-    return 0;
+    return it->is_unread ? -1 : 0;
 }
 
 int sender_find(struct sender *s, const char *name, struct sending **it)
@@ -133,9 +142,20 @@ static int load_named(void *given, const char *name)
     return found < 0 ? -1 : 0;
 }
 
+/* One that a receipt stopped, and that has no frame: it is told again, as long as it has its line. */
+static int load_stopped(void *given, const char *name)
+{
+    struct sender *s = given;
+    struct sending *it;
+    struct session of;
+    int has_line = sessions_find(s->sessions, name, &of);
+    explicit_bzero(&of, sizeof of);
+    return has_line && sender_find(s, name, &it) < 0 ? -1 : 0;
+}
+
 int sender_begin(struct sender *s)
 {
-    return outbox_sessions(&s->outbox, load_named, s);
+    return outbox_sessions(&s->outbox, load_named, s) == 0 && outbox_stops(&s->outbox, load_stopped, s) == 0 ? 0 : -1;
 }
 
 static void keep(void *given)
@@ -162,10 +182,12 @@ void sender_forget(struct sender *s)
     list_forget(&s->dirty);
     list_forget(&s->sealable);
     list_forget(&s->untold);
+    list_forget(&s->deaf);
     free(s->wakes);
     s->wakes = NULL;
     s->wake_count = s->wake_room = s->held = 0;
-    s->uncarried = s->unreceipted = 0;
+    s->uncarried = s->unconfirmed = s->unreceipted = 0;
+    s->has_begun = 0;
     s->seen = 0;
     s->unknown[0] = 0;
 }

@@ -185,15 +185,15 @@ static void try_again(const void *node, VISIT visit, int depth)
         stream->left = STREAM_TRIED;
 }
 
-int sender_try_left(struct sender *s)
+void sender_try_left(struct sender *s)
 {
     if (s->left_moment == 0 || nanoseconds() < s->left_moment)
-        return 0;
+        return;
     s->left_moment = 0;
     s->left_tries++;
     twalk(s->streams, try_again);
     s->seen = 0;
-    return sender_begin(s);
+    s->has_begun = 0; /* those that are loaded stay */
 }
 
 int sender_is_after(const struct sender *s, const struct sending *it)
@@ -205,15 +205,16 @@ int sender_is_after(const struct sender *s, const struct sending *it)
 
 /* ---- A new key */
 
-void sender_note_before(struct sender *s, struct sending *it)
+int sender_note_before(struct sender *s, struct sending *it)
 {
     struct opened *opened = &it->begun->opened;
     struct session of = { .first = 1, .has_opening = 1 };
     struct outbox_progress row;
-    if (opened->before[0] == 0 || opened->closed.is_known || !copy_text(of.name, sizeof of.name, opened->before)
-        || outbox_load(&s->outbox, &of, &row) != 0)
-        return;
-    opened->closed = outbox_history(&s->outbox, &of, row.done, &row.history, row.next);
+    if (opened->before[0] == 0 || opened->closed.is_known || !copy_text(of.name, sizeof of.name, opened->before))
+        return 0;
+    if (outbox_load(&s->outbox, &of, &row) != 0)
+        return -1;
+    return outbox_history(&s->outbox, &of, row.done, &row.history, row.next, &opened->closed);
 }
 
 int sender_is_old(const struct sender *s, const struct sending *it)

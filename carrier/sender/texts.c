@@ -20,7 +20,7 @@ static int tell_unknown(struct sender *s, const char *session)
     return sender_tell_stopped(s, session, s->kerberos == NULL
                                ? "it has texts, and no line among the sessions"
                                : "it has texts, and can't be a stream: has its name 1 to 31 letters,"
-                                 " digits, '-' and '_', and the keytab the key of its session?");
+                                 " digits, '-' and '_', and the keytab the key of its session?", 0);
 }
 
 /* Texts that were taken, with none between them that wasn't. */
@@ -60,6 +60,8 @@ static enum seal_answer take(struct sender *s, struct sending **it, const struct
         (*it)->has_texts = 1;
         return SEAL_OK;
     }
+    if ((*it)->is_unread && sender_read_history(s, *it) != 0)
+        return SEAL_FAULT;
     list_add(&s->touched, *it, &(*it)->is_touched);
     if (text->body != NULL && sender_is_old(s, *it)) {
         answer = sender_renew(s, it, text->id);
@@ -129,6 +131,7 @@ static enum seal_answer take_waiting(struct sender *s, struct sending **it, size
     enum seal_answer answer = SEAL_OK;
     sqlite3_int64 last = -1;
     int row = 0, is_taken = 1;
+    list_add(&s->touched, *it, &(*it)->is_touched); /* whatever comes of it: texts_give_up has its texts wait again */
     (*it)->has_texts = 0;
     while (answer == SEAL_OK && is_taken && (row = outbox_next_text(select, &text)) == 1) {
         if (is_left(*it, &text))
@@ -175,7 +178,7 @@ static enum seal_answer take_sealable(struct sender *s)
 
 int texts_wait(struct sender *s)
 {
-    return s->sealable.count > 0 || outbox_has_text(&s->outbox, s->seen);
+    return s->sealable.count > 0 || outbox_may_have_text(&s->outbox, s->seen);
 }
 
 enum seal_answer texts_take(struct sender *s)

@@ -103,8 +103,8 @@ int receipt_seal(const struct session *of, const struct receipt *receipt, uint8_
     return -1;
 }
 
-int receipt_open(const struct session *of, struct krbrelay_opener *opener, const uint8_t *frame,
-                 size_t len, struct receipt *receipt)
+enum receipt_answer receipt_open(const struct session *of, struct krbrelay_opener *opener, const uint8_t *frame,
+                                 size_t len, struct receipt *receipt)
 {
     const struct krbrelay_expect expect = { .mode = KRBRELAY_PRIV };
     const struct krbrelay_demand demand = { .how_sender = KRBRELAY_REQUIRED, .sender = of->to };
@@ -112,16 +112,17 @@ int receipt_open(const struct session *of, struct krbrelay_opener *opener, const
     struct krbrelay_carried carried;
     uint8_t text[RECEIPT];
     size_t size;
+    enum krbrelay_answer answer;
     if (len > RECEIPT)
-        return 0;
+        return RECEIPT_NONE;
     if (opener->at == NULL
         && krbrelay_opener_new(opener, of->etype, of->back, of->key_len, &expect) != KRBRELAY_OK)
-        return 0;
-    if (krbrelay_opener_open(opener, frame, len, &demand, &now, text, sizeof text, &size, &carried)
-            != KRBRELAY_OK || !carried.has_number)
-        return 0;
-    if (!read_said(text, size, receipt))
-        return 0;
+        return RECEIPT_FAULT;
+    answer = krbrelay_opener_open(opener, frame, len, &demand, &now, text, sizeof text, &size, &carried);
+    if (answer != KRBRELAY_OK)
+        return answer == KRBRELAY_MEMORY ? RECEIPT_FAULT : RECEIPT_NONE;
+    if (!carried.has_number || !read_said(text, size, receipt))
+        return RECEIPT_NONE;
     receipt->n = is_of_none(&receipt->history) ? of->first : (uint64_t)carried.number + 1;
-    return 1;
+    return RECEIPT_READ;
 }

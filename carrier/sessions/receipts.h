@@ -39,9 +39,10 @@ int receipt_key(struct session *of);
 int receipt_seal(const struct session *of, const struct receipt *receipt, uint8_t frame[RECEIPT],
                  size_t *len);
 
-/* Opens one, by an opener that is made when it is first needed: 1 and what it says, or 0 if it is
- * none. */
-int receipt_open(const struct session *of, struct krbrelay_opener *opener, const uint8_t *frame,
+/* Opens one, by an opener that is made when it is first needed: RECEIPT_READ and what it says, or RECEIPT_NONE if it is
+ * none under the session's key. RECEIPT_FAULT: there was no memory, so that isn't known. */
+enum receipt_answer { RECEIPT_NONE, RECEIPT_READ, RECEIPT_FAULT };
+enum receipt_answer receipt_open(const struct session *of, struct krbrelay_opener *opener, const uint8_t *frame,
                  size_t len, struct receipt *receipt);
 
 #endif
