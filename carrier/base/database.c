@@ -7,6 +7,7 @@
 #include <pthread.h>
 #include <stdio.h>
 #include <string.h>
+#include <sys/stat.h>
 
 #ifndef DATABASE_PATIENCE
 #define DATABASE_PATIENCE 10000 /* milliseconds to wait for other processes */
@@ -298,4 +299,14 @@ void close_database(sqlite3 *db)
 {
     if (sqlite3_close(db) != SQLITE_OK)
         log_fact(LEVEL_ERROR, "database_unclosed", field_text("text", sqlite3_errmsg(db)));
+}
+
+int find_file(const char *path, uint64_t *device, uint64_t *inode)
+{
+    struct stat found;
+    if (stat(path, &found) != 0)
+        return -1;
+    *device = (uint64_t)found.st_dev;
+    *inode = (uint64_t)found.st_ino;
+    return 0;
 }

@@ -4,6 +4,7 @@
 
 #include <sqlite3.h>
 #include <stddef.h>
+#include <stdint.h>
 
 /* Opens the file, which is made if it doesn't exist, and runs the statements of its tables, each of
  * which may be run again. What is committed survives a loss of power. NULL after a fault. The
@@ -69,5 +70,8 @@ void forget_rows(struct rows *rows);
 /* Ends statements, prepared or not, and a database, opened or not. */
 void finalize(struct statement *statements, int count);
 void close_database(sqlite3 *db);
+
+/* Which file is at a place: 0 and where it lies, or -1. */
+int find_file(const char *path, uint64_t *device, uint64_t *inode);
 
 #endif

@@ -23,6 +23,7 @@
 struct part {
     int is_expected;
     uint64_t alive, working; /* when it last said so, or 0 */
+    uint64_t allowed;        /* up to this moment it counts as alive */
     char labels[64];
     double values[SERVICE_METRICS];
     char names[SERVICE_NAMES][CARRIER_NAME];
@@ -76,10 +77,18 @@ void service_alive(unsigned part, int does_work, const char *labels, const doubl
     take_lock(&service.lock);
     it = expect(part);
     it->alive = nanoseconds();
+    it->allowed = 0;
     if (does_work)
         it->working = it->alive;
     write_whole(it->labels, sizeof it->labels, "%s", labels);
     memcpy(it->values, values, service.count * sizeof *values);
+    give_lock(&service.lock);
+}
+
+void service_allow(unsigned part, unsigned seconds)
+{
+    take_lock(&service.lock);
+    expect(part)->allowed = nanoseconds() + seconds * UINT64_C(1000000000);
     give_lock(&service.lock);
 }
 
@@ -106,7 +115,8 @@ static void ask_all(int *are_alive, int *do_work)
     *are_alive = *do_work = 1;
     take_lock(&service.lock);
     for (i = 0; i < service.part_count; i++) {
-        *are_alive &= !service.parts[i].is_expected || is_recent(service.parts[i].alive);
+        *are_alive &= !service.parts[i].is_expected || is_recent(service.parts[i].alive)
+                      || nanoseconds() < service.parts[i].allowed;
         *do_work &= !service.parts[i].is_expected || is_recent(service.parts[i].working);
     }
     give_lock(&service.lock);

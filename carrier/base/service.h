@@ -32,6 +32,9 @@ void service_leave(unsigned part);
  * not, and has these labels and numbers. */
 void service_alive(unsigned part, int does_work, const char *labels, const double *values);
 
+/* It begins something that may take so long: it counts as alive until then, or until it says so again. */
+void service_allow(unsigned part, unsigned seconds);
+
 /* It names these sessions, of which the first SERVICE_NAMES are kept. */
 void service_name(unsigned part, const char *const *names, size_t count);
 

@@ -47,6 +47,32 @@ int by_name(const void *one, const void *other)
     return strcmp(one, other);
 }
 
+/* How many bytes the character has that begins here; 0 if none of UTF-8 does (RFC 3629, section 4). */
+static size_t character_at(const unsigned char *at)
+{
+    size_t more = at[0] < 0x80 ? 0 : at[0] >= 0xC2 && at[0] < 0xE0 ? 1 : at[0] >= 0xE0 && at[0] < 0xF0 ? 2
+                  : at[0] >= 0xF0 && at[0] < 0xF5 ? 3 : SIZE_MAX;
+    size_t i;
+    if (more == SIZE_MAX || (at[0] == 0xE0 && at[1] < 0xA0) || (at[0] == 0xED && at[1] >= 0xA0)
+        || (at[0] == 0xF0 && at[1] < 0x90) || (at[0] == 0xF4 && at[1] >= 0x90))
+        return 0;
+    for (i = 1; i <= more; i++)
+        if (at[i] < 0x80 || at[i] >= 0xC0)
+            return 0;
+    return more + 1;
+}
+
+void make_utf8(char *text)
+{
+    size_t at = 0;
+    while (text[at] != 0) {
+        size_t len = character_at((const unsigned char *)text + at);
+        if (len == 0)
+            text[at] = '?';
+        at += len > 0 ? len : 1;
+    }
+}
+
 void write_hex(const uint8_t *bytes, size_t len, char *to)
 {
     static const char digits[] = "0123456789abcdef";

@@ -23,6 +23,9 @@ int copy_text(char *to, size_t room, const char *text);
 /* The order of two names, or of structs that begin with one, for trees of <search.h>. */
 int by_name(const void *one, const void *other);
 
+/* Writes a '?' over each byte that isn't of a character of UTF-8. */
+void make_utf8(char *text);
+
 /* Bytes as digits, two each, with a zero after them; and back: 1, or 0 if the text is none of so
  * many bytes at most. */
 void write_hex(const uint8_t *bytes, size_t len, char *to);

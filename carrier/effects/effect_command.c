@@ -2,8 +2,10 @@
  *     {"session":"tom","client":"","stream":"","number":7,"part":0,"text":"6869"}
  * with the text's bytes as hexadecimal digits, and it answers a line before it is given another one: `ok`,
  * `refuse REASON`, or `again`. If it ends, answers something else or nothing for a minute, it is started again
- * with the same text. So a text may come twice, under the same session, number and part. */
+ * with the same text. So a text may come twice, under the same session, number and part. What it was given is over
+ * before that: it and all that it started are ended by SIGTERM, and by SIGKILL after two seconds. */
 #include "effects.h"
+#include "clock.h"
 #include "ending.h"
 #include "log.h"
 
@@ -20,7 +22,9 @@
 #include <sys/wait.h>
 #include <unistd.h>
 
-enum { ANSWER = 512, WAIT = 100, MOST_WAITS = 600 }; /* bytes; milliseconds; a minute */
+enum { ANSWER = 512, MOST_ANSWER = 1 << 16 };   /* bytes of an answer that are kept, and that it may have */
+enum { WAIT = 100, MOST_WAITS = 600 };          /* milliseconds, so often: a minute */
+enum { END_WAIT = 10, END_WAITS = 200 };        /* milliseconds, so often: two seconds */
 
 struct child { pid_t pid; int socket; };
 
@@ -28,13 +32,33 @@ static const char *command;
 static pthread_key_t of_thread;
 extern char **environ;
 
+/* Whether the command and all that it started have ended: they are one process group. */
+static int has_ended(pid_t pid)
+{
+    (void)waitpid(pid, NULL, WNOHANG); /* however it ended */
+    return kill(-pid, 0) != 0 && errno == ESRCH;
+}
+
+/* Waits for two seconds at most. */
+static int await_end(pid_t pid)
+{
+    int waits;
+    for (waits = 0; waits < END_WAITS && !has_ended(pid); waits++)
+        pause_milliseconds(END_WAIT);
+    return has_ended(pid);
+}
+
 static void end_child(void *given)
 {
     struct child *child = given;
     if (child->pid > 0) {
         close(child->socket); /* its input ends */
-        (void)kill(child->pid, SIGTERM); /* it may have ended */
-        (void)waitpid(child->pid, NULL, 0); /* however it ended */
+        (void)kill(-child->pid, SIGTERM); /* it may have ended */
+        if (!await_end(child->pid)) {
+            (void)kill(-child->pid, SIGKILL);
+            if (!await_end(child->pid))
+                log_fact(LEVEL_ERROR, "command_unended", field_number("process", (uint64_t)child->pid));
+        }
     }
     free(child);
 }
@@ -66,8 +90,8 @@ static int spawn(struct child *child, int socket)
         return -1;
     }
     answer = posix_spawn_file_actions_adddup2(&actions, socket, 0) || posix_spawn_file_actions_adddup2(&actions, socket, 1)
-             || posix_spawnattr_setsigmask(&attributes, &none)
-             || posix_spawnattr_setflags(&attributes, POSIX_SPAWN_SETSIGMASK)
+             || posix_spawnattr_setsigmask(&attributes, &none) || posix_spawnattr_setpgroup(&attributes, 0)
+             || posix_spawnattr_setflags(&attributes, POSIX_SPAWN_SETSIGMASK | POSIX_SPAWN_SETPGROUP)
              || posix_spawn(&child->pid, "/bin/sh", &actions, &attributes, words, environ);
     (void)posix_spawnattr_destroy(&attributes); /* always 0 */
     (void)posix_spawn_file_actions_destroy(&actions); /* always 0 */
@@ -102,12 +126,12 @@ static struct child *running(void)
     return child->pid > 0 || start(child) == 0 ? child : NULL;
 }
 
-static int fail(struct child *child, const char *why)
+static enum effect_answer fail(struct child *child, const char *why)
 {
     log_fact(LEVEL_ERROR, "command_failed", field_text("text", why));
     (void)pthread_setspecific(of_thread, NULL); /* this thread has set it before, so its room is there */
     end_child(child);
-    return -1;
+    return EFFECT_LATER;
 }
 
 /* ---- A line for it */
@@ -188,24 +212,30 @@ static int send_all(int socket, const char *line, size_t len)
     return 0;
 }
 
-/* Reads the answer without its line feed: 0, or -1. */
+/* Reads the answer without its line feed, which stays where it is cut since it is longer than its room: 0, or -1. What
+ * comes after the line feed is no answer to this text. */
 static int read_answer(int socket, char answer[ANSWER])
 {
-    size_t len = 0;
-    while (len < ANSWER) {
-        ssize_t more = await(socket, POLLIN) == 0 ? read(socket, answer + len, 1) : -1;
+    char part[ANSWER];
+    size_t len = 0, all;
+    for (all = 0; all < MOST_ANSWER;) {
+        ssize_t more = await(socket, POLLIN) == 0 ? read(socket, part, sizeof part) : -1;
+        const char *end = more > 0 ? memchr(part, '\n', (size_t)more) : NULL;
+        size_t kept = end != NULL ? (size_t)(end - part) : more > 0 ? (size_t)more : 0;
         if (more <= 0)
             return -1;
-        if (answer[len] == '\n') {
-            answer[len] = 0;
-            return 0;
-        }
-        len++;
+        kept = kept < ANSWER - 1 - len ? kept : ANSWER - 1 - len;
+        memcpy(answer + len, part, kept);
+        len += kept;
+        answer[len] = 0;
+        if (end != NULL)
+            return end == part + more - 1 ? 0 : -1;
+        all += (size_t)more;
     }
     return -1;
 }
 
-int command_take(struct store *store, const struct arrived *it, char *reason)
+enum effect_answer command_take(struct store *store, const struct arrived *it, char *reason)
 {
     struct child *child = running();
     char answer[ANSWER], *line;
@@ -213,7 +243,7 @@ int command_take(struct store *store, const struct arrived *it, char *reason)
     int is_passed;
     (void)store;
     if (child == NULL)
-        return -1;
+        return EFFECT_LATER;
     line = line_of(it, &len);
     is_passed = line != NULL && send_all(child->socket, line, len) == 0;
     if (line != NULL)
@@ -222,11 +252,11 @@ int command_take(struct store *store, const struct arrived *it, char *reason)
     if (!is_passed || read_answer(child->socket, answer) != 0)
         return fail(child, "it has ended, or answers nothing: it is started again");
     if (strcmp(answer, "ok") == 0)
-        return 0;
+        return EFFECT_DONE;
     if (strncmp(answer, "refuse", 6) == 0 && (answer[6] == ' ' || answer[6] == 0)) {
         const char *told = answer[6] == ' ' ? answer + 7 : "";
         (void)snprintf(reason, EFFECT_REASON, "%.*s", EFFECT_REASON - 1, told); /* a long one is cut */
         return EFFECT_REFUSED;
     }
-    return strcmp(answer, "again") == 0 ? -1 : fail(child, "it answers neither ok, refuse nor again");
+    return strcmp(answer, "again") == 0 ? EFFECT_LATER : fail(child, "it answers neither ok, refuse nor again");
 }

@@ -119,12 +119,12 @@ static struct value value_of(enum name name, const struct arrived *it)
     return name == TEXT ? bytes_value(it->text, it->len) : text_value(text);
 }
 
-int statement_take(struct store *store, const struct arrived *it, char *reason)
+enum effect_answer statement_take(struct store *store, const struct arrived *it, char *reason)
 {
     struct value values[NAMES];
     unsigned i;
     (void)reason;
     for (i = 0; i < statement.count; i++)
         values[i] = value_of(statement.values[i], it);
-    return store_run(store, statement.sql, values, statement.count);
+    return store_run(store, statement.sql, values, statement.count) == 0 ? EFFECT_DONE : EFFECT_FAULT;
 }

@@ -23,16 +23,16 @@ static struct {
 
 /* ---- Which effect */
 
-static int take_row(struct store *store, const struct arrived *it, char *reason)
+static enum effect_answer take_row(struct store *store, const struct arrived *it, char *reason)
 {
     (void)reason;
-    return take_effect(store, it);
+    return take_effect(store, it) == 0 ? EFFECT_DONE : EFFECT_FAULT;
 }
 
-static int take_by_object(struct store *store, const struct arrived *it, char *reason)
+static enum effect_answer take_by_object(struct store *store, const struct arrived *it, char *reason)
 {
     (void)reason;
-    return chosen.of_object(store, it);
+    return chosen.of_object(store, it) == 0 ? EFFECT_DONE : EFFECT_FAULT;
 }
 
 static int object_choose(const char *path)
@@ -82,13 +82,23 @@ int effects_choose(const char *word, unsigned tries)
     return word != NULL ? choose(word) : 0;
 }
 
+int effects_are_outside(void)
+{
+    return chosen.call == command_take;
+}
+
+int effects_may_put_aside(void)
+{
+    return chosen.tries > 0;
+}
+
 /* ---- Texts that are refused */
 
-static struct refused *find(struct refusals *of, const struct arrived *it)
+static const struct refused *find(const struct refusals *of, const struct arrived *it)
 {
     size_t i;
-    for (i = 0; i < REMEMBERED; i++) {
-        struct refused *at = &of->at[i];
+    for (i = 0; of != NULL && i < REMEMBERED; i++) {
+        const struct refused *at = &of->at[i];
         if (at->times > 0 && at->number == it->number && at->part == it->part
             && strcmp(at->session, it->session) == 0)
             return at;
@@ -98,65 +108,86 @@ static struct refused *find(struct refusals *of, const struct arrived *it)
 
 static struct refused *find_or_add(struct refusals *of, const struct arrived *it)
 {
-    struct refused *found = find(of, it);
+    const struct refused *found = find(of, it);
+    struct refused *added;
     if (found != NULL)
-        return found;
-    found = &of->at[of->next++ % REMEMBERED];
-    *found = (struct refused){ .number = it->number, .part = it->part };
-    (void)copy_text(found->session, sizeof found->session, it->session); /* its room is a name's */
-    return found;
+        return &of->at[found - of->at];
+    added = &of->at[of->next++ % REMEMBERED];
+    *added = (struct refused){ .number = it->number, .part = it->part };
+    (void)copy_text(added->session, sizeof added->session, it->session); /* its room is a name's */
+    return added;
 }
 
-static int put_aside(struct store *store, const struct arrived *it, const char *reason)
+int effects_are_refused(const struct refusals *of, const struct arrived *it)
 {
+    const struct refused *found = chosen.tries > 0 ? find(of, it) : NULL;
+    return found != NULL && found->times >= chosen.tries;
+}
+
+int effects_put_aside(struct store *store, const struct refusals *of, const struct arrived *it)
+{
+    const char *reason = find(of, it)->reason;
     const struct value values[] = { text_value(it->session), number_value(it->number), number_value(it->part),
                                     bytes_value(it->text, it->len), text_value(it->client), text_value(it->stream),
                                     text_value(reason) };
+    if (store_run(store, "INSERT INTO aside (session, number, part, text, client, stream, reason)"
+                         " VALUES ($1, $2, $3, $4, $5, $6, $7)", values, 7) != 0 || store->settle(store) != 0)
+        return -1;
     log_fact(LEVEL_WARNING, "text_put_aside", field_text("session", it->session), field_number("number", it->number),
-             field_number("part", it->part), field_text("text", "the table `aside` has it, with the reason"));
-    return store_run(store, "INSERT INTO aside (session, number, part, text, client, stream, reason)"
-                            " VALUES ($1, $2, $3, $4, $5, $6, $7)", values, 7);
+             field_number("part", it->part),
+             field_text("text", "the table `aside` has it, with the reason, once the transaction is stored"));
+    return 0;
 }
 
-/* Notes that a text was refused, if that is what the fault was. */
-static void note(struct refusals *of, const struct arrived *it, const char *reason)
+/* Notes that a text was refused. What it says may have parts of a text: a store's columns take it as UTF-8 alone. */
+static enum effect_answer note(struct refusals *of, const struct arrived *it, const char *reason)
 {
     struct refused *refused = find_or_add(of, it);
     refused->times++;
     copy_cut(refused->reason, sizeof refused->reason, reason);
+    make_utf8(refused->reason);
     log_fact(LEVEL_WARNING, "text_refused", field_text("session", it->session), field_number("number", it->number),
              field_number("part", it->part), field_number("times", refused->times));
+    return EFFECT_REFUSED;
 }
 
-/* All that was asked before this text is waited for, and then its own, so that a fault is known to be of it. */
-static int take_alone(struct store *store, const struct arrived *it, struct refusals *of)
+/* The effect of a text in a store: all that was asked before it is waited for, and then its own, so that a fault is
+ * known to be of it. */
+static enum effect_answer take_settled(struct store *store, const struct arrived *it, char *reason)
 {
-    char reason[EFFECT_REASON] = "";
-    const char *of_store;
-    int answer = store->settle(store) == 0 ? 0 : -1;
-    if (answer != 0)
-        return -1;
-    answer = chosen.call(store, it, reason);
-    if (answer == 0)
-        answer = store->settle(store);
-    if (answer == 0)
-        return 0;
-    of_store = store->refusal(store);
-    if (answer == EFFECT_REFUSED || of_store != NULL)
-        note(of, it, answer == EFFECT_REFUSED ? reason : of_store);
-    return -1;
+    enum effect_answer answer = store->settle(store) == 0 ? EFFECT_DONE : EFFECT_FAULT;
+    const char *why;
+    if (answer == EFFECT_DONE)
+        answer = chosen.call(store, it, reason);
+    if (answer == EFFECT_DONE && store->settle(store) != 0)
+        answer = EFFECT_FAULT;
+    why = answer == EFFECT_FAULT ? store->refusal(store) : NULL;
+    if (why == NULL)
+        return answer;
+    copy_cut(reason, EFFECT_REASON, why);
+    return EFFECT_REFUSED;
 }
 
-int effects_take(struct store *store, const struct arrived *it, struct refusals **of)
+/* One that is told as it stands, since its shard waits for it. */
+static enum effect_answer tell_later(const struct arrived *it, enum effect_answer answer)
 {
-    struct refused *refused;
+    log_fact(LEVEL_WARNING, "text_waits", field_text("session", it->session), field_number("number", it->number),
+             field_number("part", it->part),
+             field_text("text", answer == EFFECT_LATER ? "its effect can't be had now: it is tried again, and its shard waits"
+                                                       : "the store has a fault at it: it is tried again, and its shard waits"));
+    return answer;
+}
+
+enum effect_answer effects_take(struct store *store, const struct arrived *it, int is_alone, struct refusals **of)
+{
     char reason[EFFECT_REASON] = "";
-    if (chosen.tries == 0)
-        return chosen.call(store, it, reason) == 0 ? 0 : -1;
+    enum effect_answer answer;
+    if (!is_alone && !effects_are_outside())
+        return chosen.call(store, it, reason);
     if (*of == NULL && (*of = calloc(1, sizeof **of)) == NULL)
-        return -1;
-    refused = find(*of, it);
-    if (refused != NULL && refused->times >= chosen.tries)
-        return put_aside(store, it, refused->reason) == 0 ? EFFECT_ASIDE : -1;
-    return take_alone(store, it, *of);
+        return EFFECT_FAULT;
+    answer = effects_are_outside() ? chosen.call(store, it, reason) : take_settled(store, it, reason);
+    if (answer == EFFECT_REFUSED)
+        return note(*of, it, reason);
+    return answer == EFFECT_DONE ? answer : tell_later(it, answer);
 }

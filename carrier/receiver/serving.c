@@ -57,13 +57,14 @@ static int has_to_end(const struct served *it)
     return is_ending() || is_set(&it->is_left);
 }
 
-/* The store is away: waits for longer each time. */
-static void wait_for_store(struct served *it)
+/* The store is away, or the effect of a text can't be had: waits for longer each time. */
+static void wait_longer(struct served *it, int why)
 {
     unsigned waited;
-    log_fact(LEVEL_WARNING, "store_away", field_number("shard", it->shard.number),
-             field_number("milliseconds", it->pause),
-             field_text("text", "it is opened again then, and the shard goes on where it was"));
+    if (why == SHARD_AWAY)
+        log_fact(LEVEL_WARNING, "store_away", field_number("shard", it->shard.number),
+                 field_number("milliseconds", it->pause),
+                 field_text("text", "it is opened again then, and the shard goes on where it was"));
     for (waited = 0; waited < it->pause && !has_to_end(it); waited += WAIT)
         pause_milliseconds(WAIT);
     it->pause = 2 * it->pause < LONGEST ? 2 * it->pause : LONGEST;
@@ -124,7 +125,7 @@ int serving_turn(struct served *it)
     if (shard->answered != 0)
         __atomic_store_n(&it->answered, shard->answered, __ATOMIC_SEQ_CST);
     if (count < 0)
-        wait_for_store(it);
+        wait_longer(it, count);
     else if (shard->is_loaded)
         it->pause = SHORTEST;
     if (shard->counts.accepted == 0 && count == 0)

@@ -1,14 +1,15 @@
 #include "shard.h"
 #include "clock.h"
 #include "effects.h"
-#include "kept.h"
 #include "log.h"
+#include "text.h"
 
 #include <stdio.h>
 #include <stdlib.h>
 #include <string.h>
 
-#define QUIET UINT64_C(5000000000) /* nanoseconds */
+#define SECOND UINT64_C(1000000000) /* nanoseconds */
+#define QUIET (5 * SECOND)
 
 enum { FORGOTTEN = 1024 };
 
@@ -192,55 +193,89 @@ static void take_unknown(struct shard *s, const struct carried *it)
 
 /* ---- A frame that is accepted */
 
-/* The effect of a text, or that it is put aside: 0, or -1 after a fault. */
-static int take_text(struct shard *s, const struct arrived *it)
+/* A text that was refused often enough. No command is asked within the store's transaction: this is its last frame. */
+static enum effect_answer put_aside(struct shard *s, const struct arrived *it)
 {
-    int answer = effects_take(s->store, it, &s->refusals);
-    s->counts.texts += answer == 0;
-    s->aside += answer == EFFECT_ASIDE;
-    return answer == EFFECT_ASIDE ? 0 : answer;
+    if (shard_begin_late(s) != 0 || effects_put_aside(s->store, s->refusals, it) != 0)
+        return EFFECT_FAULT;
+    s->is_last |= effects_are_outside();
+    s->drafted.aside++;
+    return EFFECT_DONE;
 }
 
-/* The effects of the texts of a record. */
-static int take_effects(struct shard *s, const struct receiving *of, uint64_t number,
-                        const struct krbrelay_taken *taken, const uint8_t *bytes)
+/* The effect of one text of a record. */
+static enum effect_answer take_text(struct shard *s, const struct arrived *it, int is_alone)
 {
-    struct arrived it = { of->of.name, of->opened != NULL ? of->opened->client : "",
-                          of->opened != NULL ? of->opened->stream : "", number, 0, bytes, taken->size };
-    size_t at = 0;
-    int answer = 0;
-    if (taken->kind == KRBRELAY_TEXT)
-        answer = take_text(s, &it);
-    while (taken->kind == KRBRELAY_BATCH && answer == 0
-           && krbrelay_batch_next(bytes, taken->size, &at, &it.text, &it.len) == KRBRELAY_OK) {
-        answer = take_text(s, &it);
-        it.part++;
-    }
-    s->counts.bytes += taken->size;
+    enum effect_answer answer;
+    if (effects_are_refused(s->refusals, it))
+        return put_aside(s, it);
+    if (effects_are_outside())
+        service_allow(s->number, EFFECT_SECONDS);
+    answer = effects_take(s->store, it, is_alone, &s->refusals);
+    s->drafted.texts += answer == EFFECT_DONE;
     return answer;
 }
 
-/* The frame of the demanded number, whose record is read. */
-static int take_accepted(struct shard *s, struct receiving *of, const struct carried *it,
-                         const struct krbrelay_taken *taken, const uint8_t *bytes)
+/* How many texts of this frame a command has answered before, without that this is stored. */
+static unsigned answered_parts(const struct shard *s, const struct arrived *it)
+{
+    const struct done_parts *before = &s->done_parts;
+    return before->number == it->number && strcmp(before->session, it->session) == 0 ? before->parts : 0;
+}
+
+static void note_answered(struct shard *s, const struct arrived *it)
+{
+    s->done_parts = (struct done_parts){ .number = it->number, .parts = it->part };
+    (void)copy_text(s->done_parts.session, sizeof s->done_parts.session, it->session); /* its room is a name's */
+}
+
+/* The effects of the texts of a record. */
+static enum effect_answer take_effects(struct shard *s, const struct receiving *of, const struct krbrelay_taken *taken,
+                                       const uint8_t *bytes, int is_alone)
+{
+    struct arrived it = { of->of.name, of->opened != NULL ? of->opened->client : "",
+                          of->opened != NULL ? of->opened->stream : "", of->end.drafted.number, 0, bytes, taken->size };
+    unsigned answered = answered_parts(s, &it);
+    size_t at = 0;
+    enum effect_answer answer = EFFECT_DONE;
+    if (taken->kind == KRBRELAY_TEXT)
+        answer = take_text(s, &it, is_alone);
+    while (taken->kind == KRBRELAY_BATCH && answer == EFFECT_DONE
+           && krbrelay_batch_next(bytes, taken->size, &at, &it.text, &it.len) == KRBRELAY_OK) {
+        if (it.part >= answered)
+            answer = take_text(s, &it, is_alone);
+        it.part += answer == EFFECT_DONE;
+        shard_note_alive(s);
+    }
+    if (answer != EFFECT_DONE && effects_are_outside())
+        note_answered(s, &it);
+    s->drafted.bytes += taken->size;
+    return answer;
+}
+
+/* The frame of the demanded number, whose record is read: its effects, and then that it was taken. */
+static enum effect_answer take_accepted(struct shard *s, struct receiving *of, const struct carried *it,
+                                        const struct krbrelay_taken *taken, const uint8_t *bytes, int is_alone)
 {
     const struct krbrelay_seen seen = { .accepted = 1, .is_close = taken->kind == KRBRELAY_CLOSE };
-    uint64_t number = of->end.drafted.number;
     uint32_t outcome = 0;
-    int done;
+    enum effect_answer answer = take_effects(s, of, taken, bytes, is_alone);
+    s->counts.storing += lap(s);
+    if (answer == EFFECT_REFUSED || answer == EFFECT_LATER)
+        list_add(&s->standing, of, &of->is_standing);
+    if (answer != EFFECT_DONE)
+        return answer;
     if (krbrelay_receiving_take(&of->end, it->frame, it->len, &seen, &outcome) != KRBRELAY_OK
         || outcome != KRBRELAY_OUTCOME_ACCEPTED)
-        return -1; /* never: what the store has, and what was taken since, is where both are */
+        return EFFECT_FAULT; /* never: what the store has, and what was taken since, is where both are */
     of->now.at = it->offset;
     of->now.missed = MISSED_NOTHING;
     of->has_opened = 1;
     note_changed(s, of);
     goes_on(s, of);
-    s->counts.accepted++;
-    s->open -= seen.is_close && s->open > 0;
-    done = take_effects(s, of, number, taken, bytes);
-    s->counts.storing += lap(s);
-    return done;
+    s->drafted.accepted++;
+    s->drafted.closed += seen.is_close;
+    return EFFECT_DONE;
 }
 
 /* The session's receiver, at what is stored, unless it is made. */
@@ -356,8 +391,13 @@ static void take_together(struct shard *s, struct receiving *of, int first, int 
     }
 }
 
+static enum effect_answer fault_unless(int answer)
+{
+    return answer == 0 ? EFFECT_DONE : EFFECT_FAULT;
+}
+
 /* Takes one frame of a session, within a transaction of so many. */
-static int take(struct shard *s, struct receiving *of, int place, int end)
+static enum effect_answer take(struct shard *s, struct receiving *of, int place, int end, int is_alone)
 {
     const struct carried *it = &s->frames[place];
     const struct krbrelay_taken *taken;
@@ -365,11 +405,11 @@ static int take(struct shard *s, struct receiving *of, int place, int end)
     int done;
     list_add(&s->taken, of, &of->is_taken);
     if (is_opening_of(of, it))
-        return take_opening(s, of, it);
+        return fault_unless(take_opening(s, of, it));
     if (is_before_turn(s, of))
-        return take_before_turn(s, of, it);
+        return fault_unless(take_before_turn(s, of, it));
     if (make_receiver(s, of) != 0)
-        return -1;
+        return EFFECT_FAULT;
     if (place - s->together.first >= s->together.count)
         take_together(s, of, place, end);
     taken = &s->together.taken[place - s->together.first];
@@ -377,95 +417,24 @@ static int take(struct shard *s, struct receiving *of, int place, int end)
     done = answer == KRBRELAY_OK ? 0 : take_refusal(s, of, it, answer, taken->number);
     s->counts.opening += lap(s);
     if (answer != KRBRELAY_OK)
-        return done;
-    return take_accepted(s, of, it, taken, s->bytes + s->together.at[place - s->together.first]);
+        return fault_unless(done);
+    return take_accepted(s, of, it, taken, s->bytes + s->together.at[place - s->together.first], is_alone);
 }
 
-/* ---- The frames of one transaction */
-
-/* The row that this transaction leaves. */
-static void draft(struct receiving *it)
+enum effect_answer shard_take(struct shard *s, int place, int end, int is_alone)
 {
-    const struct krbrelay_row *row = &it->end.drafted;
-    it->now.next = row->number;
-    it->now.closed = row->closed;
-    memcpy(it->now.history.bytes, row->history, sizeof row->history);
-    if (row->closed)
-        it->now.missed = MISSED_NOTHING;
+    s->place = place;
+    if (s->of_frames[place] != NULL)
+        return take(s, s->of_frames[place], place, end, is_alone);
+    take_unknown(s, &s->frames[place]);
+    return EFFECT_DONE;
 }
 
-static int advance_all(struct shard *s)
+void shard_leave(struct shard *s, int place)
 {
-    size_t i;
-    for (i = 0; i < s->changed.count; i++) {
-        struct receiving *it = s->changed.at[i];
-        draft(it);
-        if (store_advance(s->store, it->of.name, &it->stored, &it->now) != 0)
-            return -1;
-        if (it->opened_at > 0 && kept_add(s->store, s->kerberos, it->opened) != 0)
-            return -1;
-    }
-    return 0;
-}
-
-/* The transaction took effect. */
-static int note_stored(struct shard *s)
-{
-    size_t i;
-    int answer = krbrelay_reading_stored(&s->reading) == KRBRELAY_OK ? 0 : -1;
-    for (i = 0; i < s->changed.count; i++) {
-        struct receiving *it = s->changed.at[i];
-        it->now.is_stored = 1;
-        s->ended += it->now.closed && !it->stored.closed;
-        it->stored = it->now;
-        it->is_changed = 0;
-        it->opened_at = 0;
-    }
-    for (i = 0; i < s->taken.count && answer == 0; i++) {
-        struct receiving *it = s->taken.at[i];
-        it->is_taken = 0;
-        answer = krbrelay_receiving_stored(&it->end) == KRBRELAY_OK ? 0 : -1;
-        if (it->end.owed != 0)
-            list_add(&s->owing, it, &it->is_owing);
-    }
-    s->changed.count = s->taken.count = s->news.count = 0;
-    return answer;
-}
-
-/* Answers as `commit` of a store. */
-static int take_all(struct shard *s, int count)
-{
-    const struct reached from = { s->reading.stored.list, s->reading.stored.offset };
-    const struct reached to = { s->reading.read.list, s->reading.read.offset };
-    int i, answer;
-    s->moment = read_clock();
-    s->lap = nanoseconds();
+    if (place - s->together.first < s->together.count)
+        s->of_frames[s->together.first]->is_made = 0; /* the receiver is past what is taken */
     s->together.first = s->together.count = 0;
-    answer = shard_load_frames(s, count);
-    if (answer == 0)
-        answer = store_begin(s->store, s->number, &from, &to);
-    s->counts.storing += lap(s);
-    for (i = 0; i < count && answer == 0; i++) {
-        if (s->of_frames[i] != NULL)
-            answer = take(s, s->of_frames[i], i, count);
-        else
-            take_unknown(s, &s->frames[i]);
-    }
-    if (answer == 0)
-        answer = advance_all(s);
-    if (answer == 0)
-        answer = s->store->commit(s->store);
-    else
-        s->store->rollback(s->store);
-    s->counts.storing += lap(s);
-    s->counts.commits += answer == 0;
-    s->counts.aside += answer == 0 ? s->aside : 0;
-    s->aside = 0;
-    if (answer == 0)
-        return note_stored(s);
-    if (s->news.count > 0) /* what the openings brought isn't stored */
-        shard_forget(s);
-    return answer;
 }
 
 /* ---- Steps */
@@ -478,6 +447,13 @@ static void close_store(struct shard *s)
     s->is_loaded = 0;
 }
 
+/* It may be another store when it is there again, as a standby that is behind: what is known of sessions is forgotten. */
+static void lose_store(struct shard *s)
+{
+    close_store(s);
+    shard_forget(s);
+}
+
 /* Loads what isn't loaded: 1 if that was done, 0 if the carrier isn't ready, -1 after a fault of
  * the store. */
 static int be_loaded(struct shard *s, int milliseconds)
@@ -486,14 +462,14 @@ static int be_loaded(struct shard *s, int milliseconds)
     if (answer == 1)
         pause_milliseconds((unsigned)milliseconds);
     else if (answer < 0)
-        close_store(s);
-    return answer == 0 ? 1 : answer > 0 ? 0 : -1;
+        lose_store(s);
+    return answer == 0 ? 1 : answer > 0 ? 0 : SHARD_AWAY;
 }
 
-/* Fetches frames: how many are for the next transaction. */
+/* Fetches frames for the next transactions: how many there are. */
 static int fetch(struct shard *s, int milliseconds)
 {
-    struct krbrelay_reading *reading = &s->reading;
+    struct krbrelay_reading judged = s->reading;
     uint64_t began = nanoseconds(), last;
     uint32_t read = KRBRELAY_READ_NOTHING;
     int count = s->carrier->fetch(s->carrier, s->frames, s->options->batch, milliseconds);
@@ -507,11 +483,13 @@ static int fetch(struct shard *s, int milliseconds)
     s->counts.fetching += s->looked - began;
     s->counts.frames += (unsigned long)count;
     last = s->frames[count - 1].offset;
-    if (krbrelay_reading_frames(reading, reading->read.list, last, last - reading->read.offset, &read)
+    if (krbrelay_reading_frames(&judged, judged.read.list, last, last - judged.read.offset, &read)
             != KRBRELAY_OK || read != KRBRELAY_READ_TAKE) {
         s->is_loaded = 0;
         return 0;
     }
+    s->next = 0;
+    s->fetched = count;
     return count;
 }
 
@@ -522,10 +500,27 @@ static void look_at_list(struct shard *s)
     struct krbrelay_reading now = s->reading;
     uint64_t list = 0, end = 0;
     uint32_t read = KRBRELAY_READ_NOTHING;
+    struct reached reached;
     s->looked = nanoseconds();
+    if (store_reached(s->store, s->number, &reached) != 0) {
+        lose_store(s);
+        return;
+    }
+    if (reached.incarnation != s->reading.stored.list || reached.offset != s->reading.stored.offset)
+        s->is_loaded = 0; /* the store has gone back, or another receiver went on */
     if (s->carrier->incarnation(s->carrier, s->number, &list, &end) == 0 && list != 0
         && krbrelay_reading_frames(&now, list, end, 0, &read) == KRBRELAY_OK && read == KRBRELAY_READ_ELSEWHERE)
         s->is_loaded = 0;
+}
+
+/* Each second: a store whose file was replaced is opened again, so that nothing is stored where nobody looks. */
+static void look_at_store(struct shard *s)
+{
+    if (s->store == NULL || nanoseconds() - s->looked_at_store < SECOND)
+        return;
+    s->looked_at_store = nanoseconds();
+    if (!s->store->is_there(s->store))
+        lose_store(s);
 }
 
 /* Forgets all sessions once so many have ended that they take as much memory as all others, and owe nothing: those
@@ -540,31 +535,41 @@ static void forget_ended(struct shard *s)
     s->is_loaded = 0;
 }
 
+/* What follows from how a transaction of so many frames ended: as shard_step. */
+static int end_step(struct shard *s, enum transaction ended, int count)
+{
+    if (ended == TRANSACTION_STORED) {
+        shard_pay(s);
+        return count;
+    }
+    /* All is read again from where the store is: at once where a text is to be taken alone, after a drawn while where
+     * another receiver was faster. */
+    s->is_loaded = 0;
+    s->counts.fenced += ended == TRANSACTION_FENCED;
+    if (ended == TRANSACTION_FAULT)
+        lose_store(s);
+    else if (ended != TRANSACTION_FENCED && !effects_are_outside())
+        close_store(s); /* a connection whose statement failed isn't used any more */
+    if (ended == TRANSACTION_FAULT || ended == TRANSACTION_FENCED)
+        pause_milliseconds(50 + (unsigned)rand() % 200);
+    if (ended == TRANSACTION_HELD)
+        return SHARD_HELD;
+    return ended == TRANSACTION_FAULT ? SHARD_AWAY : count;
+}
+
 int shard_step(struct shard *s, int milliseconds)
 {
     int count, answer;
     forget_ended(s);
+    look_at_store(s);
     answer = be_loaded(s, milliseconds);
     if (answer != 1)
         return answer;
     shard_pay(s);
-    count = fetch(s, milliseconds);
+    count = s->next < s->fetched ? s->fetched - s->next : fetch(s, milliseconds);
     if (count == 0 && s->is_loaded && nanoseconds() - s->looked > QUIET)
         look_at_list(s);
-    if (count == 0)
-        return 0;
-    answer = take_all(s, count);
-    if (answer == 0) {
-        shard_pay(s);
-        return count;
-    }
-    /* Another receiver was faster, or a fault: continue at what is stored, after a drawn while. */
-    s->is_loaded = 0;
-    s->counts.fenced += answer == 1;
-    if (answer < 0)
-        close_store(s);
-    pause_milliseconds(50 + (unsigned)rand() % 200);
-    return answer < 0 ? -1 : count;
+    return count == 0 ? 0 : end_step(s, shard_transact(s), count);
 }
 
 /* ---- */

@@ -18,6 +18,7 @@
 #define SHARD_H
 
 #include "carrier.h"
+#include "effects.h"
 #include "list.h"
 #include "opening.h"
 #include "service.h"
@@ -81,6 +82,12 @@ struct together {
     size_t at[KRBRELAY_MOST_FRAMES], used; /* where in the shard's bytes each record begins, and the last ends */
 };
 
+/* What a transaction has done, which counts once it is stored. */
+struct drafted { unsigned long texts, accepted, aside, closed; unsigned long long bytes; };
+
+/* So many texts of this frame were answered by a command, and aren't stored: they aren't given to it again. */
+struct done_parts { char session[CARRIER_NAME]; uint64_t number; unsigned parts; };
+
 struct shard {
     const struct shard_options *options;
     struct sessions *sessions;     /* the file, of which this is a user */
@@ -92,11 +99,18 @@ struct shard {
     void *receivings;              /* tsearch's tree of a struct receiving for each session */
     size_t count;                  /* so many there are, and these lists have room for: */
     struct list changed, taken, owing, standing;
-    unsigned long aside;           /* texts that this transaction puts aside */
+    struct drafted drafted;        /* what this transaction has done, */
+    int is_begun;                  /* whether the store's is open, */
+    uint64_t moved_to;             /* up to which offset it moves the shard, */
+    int place;                     /* and which frame it is at */
+    int is_last;                   /* it ends with this frame */
+    uint64_t alone;                /* frames up to this offset are taken alone; 0: none */
+    struct done_parts done_parts;
     size_t ended;                  /* so many of them are closed */
     struct list asked;             /* those of which the store is asked, */
     struct list news;              /* and those whose openings this transaction takes */
-    struct carried *frames;
+    struct carried *frames;        /* those of the last fetch, */
+    int next, fetched;             /* of which those from `next` on weren't taken yet */
     struct receiving **of_frames;  /* of each frame the session, or NULL */
     struct krbrelay_reading reading; /* how far it was read, as stored and as taken: krb_engine's */
     int has_wrapped;               /* keys that are stored are wrapped under the newest one */
@@ -105,6 +119,7 @@ struct shard {
     uint64_t lap;                  /* up to when its time was counted */
     uint64_t answered;             /* when the carrier answered last, */
     uint64_t looked;               /* when a frame came last, or the list was looked at */
+    uint64_t looked_at_store, shown; /* when that was done last */
     unsigned long turn;            /* so often it was loaded */
     int is_loaded;
     size_t open;                   /* if it is asked for, so many sessions aren't closed */
@@ -120,8 +135,9 @@ int shard_start(struct shard *shard);
  * ends. */
 void shard_use(struct shard *shard, struct sessions *sessions);
 
-/* Fetches frames, and takes them in one transaction. Answers how many there were, or -1 after a
- * fault of the store, which the next step opens again. */
+/* Fetches frames, and takes them in a transaction, or some of them. Answers how many there were; SHARD_AWAY after a fault
+ * of the store, which the next step opens again; or SHARD_HELD: the effect of a text can't be had now, which is told. */
+enum { SHARD_AWAY = -1, SHARD_HELD = -2 };
 int shard_step(struct shard *shard, int milliseconds);
 
 void shard_stop(struct shard *shard);
@@ -140,14 +156,36 @@ void shard_count_unopened(struct shard_counts *counts, enum opening_answer answe
 void shard_report(const struct shard *shard, const char *event, uint64_t took);
 void shard_show(struct shard *shard, unsigned part);
 
+/* Shows it, if that wasn't done within the last second: within a long transaction. */
+void shard_note_alive(struct shard *shard);
+
+/* ---- Frames, in a transaction. */
+
+/* Takes one of those that were fetched, of those up to `end`, perhaps alone (effects.h); and leaves those from this one
+ * on for another transaction. */
+enum effect_answer shard_take(struct shard *shard, int place, int end, int is_alone);
+void shard_leave(struct shard *shard, int place);
+
+/* ---- shard_transaction.c */
+
+/* How a transaction ended: it is stored; another receiver was faster; nothing is stored, and all is read again at once; the
+ * same after a pause, since the effect of a text can't be had now; after a fault of the store. */
+enum transaction { TRANSACTION_STORED, TRANSACTION_FENCED, TRANSACTION_AGAIN, TRANSACTION_HELD, TRANSACTION_FAULT };
+
+/* One transaction of frames that were fetched. */
+enum transaction shard_transact(struct shard *shard);
+
+/* Opens the store's transaction, unless it is open: 0, or -1 after a fault. */
+int shard_begin_late(struct shard *shard);
+
 /* ---- shard_load.c: which sessions a shard has, and what the store has of them. */
 
 /* Makes all what store and carrier have: 0, 1 if the carrier doesn't answer or has no such shard
  * yet, -1 after a fault of the store. */
 int shard_load(struct shard *shard);
 
-/* Loads the sessions of the first `count` frames. 0, or -1 after a fault. */
-int shard_load_frames(struct shard *shard, int count);
+/* Loads the sessions of these of the frames that were fetched. 0, or -1 after a fault. */
+int shard_load_frames(struct shard *shard, int first, int end);
 
 /* The session of this name: 1, 0 and NULL if none is loaded and none has a line, -1 if there is no
  * memory. */

@@ -182,15 +182,15 @@ static int ask_for(struct shard *s, struct receiving *it)
     return is_new || it->end.drafted.number == it->of.first ? ask_before(s, it) : 0;
 }
 
-int shard_load_frames(struct shard *s, int count)
+int shard_load_frames(struct shard *s, int first, int end)
 {
     int i;
     size_t each;
     s->asked.count = 0;
     s->unknown[0] = 0;
-    for (i = 0; i < count; i++) {
+    for (i = first; i < end; i++) {
         int found;
-        if (i > 0 && s->of_frames[i - 1] != NULL && strcmp(s->frames[i].session, s->frames[i - 1].session) == 0) {
+        if (i > first && s->of_frames[i - 1] != NULL && strcmp(s->frames[i].session, s->frames[i - 1].session) == 0) {
             s->of_frames[i] = s->of_frames[i - 1]; /* as mostly: a session's frames come together */
             continue;
         }
@@ -263,6 +263,8 @@ static int place_reading(struct shard *s, uint64_t list, uint64_t end)
     uint32_t read = KRBRELAY_READ_NOTHING;
     if (krbrelay_reading_frames(it, list, end, 0, &read) != KRBRELAY_OK)
         return -1;
+    if (read == KRBRELAY_READ_ELSEWHERE)
+        s->alone = 0;
     if (read == KRBRELAY_READ_ELSEWHERE && it->stored.list != 0)
         log_fact(LEVEL_WARNING, it->stored.list != list ? "shard_made_anew" : "shard_lost_frames",
                  field_number("shard", s->number), field_number("end", end),
@@ -289,6 +291,7 @@ int shard_load(struct shard *s)
     if (place_reading(s, list, end) != 0)
         return -1;
     s->carrier->seek(s->carrier, s->number, s->reading.read.offset);
+    s->next = s->fetched = 0;
     s->is_loaded = 1;
     return 0;
 }

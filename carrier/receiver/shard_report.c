@@ -9,6 +9,7 @@
 #include <stdio.h>
 
 #define NAME "krbrelay_receiver_"
+#define SECOND UINT64_C(1000000000)  /* nanoseconds */
 #define SILENCE UINT64_C(2000000000) /* nanoseconds: service.h waits for ten seconds more */
 #define REFUSED(reason) \
     { NAME "refused_frames_total", "counter", "Other frames that were refused, by reason", \
@@ -52,6 +53,15 @@ void shard_count_refused(struct shard_counts *counts, uint32_t answer)
     while (i < OTHER_REFUSAL && refusals[i] != answer)
         i++;
     counts->refused[i]++;
+}
+
+void shard_note_alive(struct shard *s)
+{
+    uint64_t now = nanoseconds();
+    if (now - s->shown < SECOND)
+        return;
+    s->shown = now;
+    shard_show(s, s->number);
 }
 
 void shard_count_unopened(struct shard_counts *counts, enum opening_answer answer)

@@ -4,7 +4,6 @@
 
 #include <stdio.h>
 #include <string.h>
-#include <sys/stat.h>
 
 /* Where there is a bound, texts that wait are counted only if their ids lie far enough apart. A close is always
  * taken, so that a session can end. */
@@ -149,17 +148,6 @@ static int complete(struct outbox *o)
         return 0;
     outbox_rollback(o);
     return -1;
-}
-
-/* Which file is at the outbox's place: 0 and where it lies, or -1. */
-static int find_file(const char *path, uint64_t *device, uint64_t *inode)
-{
-    struct stat found;
-    if (stat(path, &found) != 0)
-        return -1;
-    *device = (uint64_t)found.st_dev;
-    *inode = (uint64_t)found.st_ino;
-    return 0;
 }
 
 int outbox_is_there(const struct outbox *o)

@@ -81,15 +81,24 @@ static int sync(struct postgresql_store *s)
     return PQpipelineSync(s->db) ? 0 : report(s, "sync");
 }
 
-/* Keeps why values were refused, if that is what failed: data (class 22), integrity (23), a check option (44), or
- * what a function raises. It may have parts of a text, so it isn't logged. */
+/* The classes of what is said of values: how many rows they give, data, integrity, a trigger's change, a check option, a
+ * limit, as of an index, and what a function raises. */
+static int is_of_values(const char *state)
+{
+    static const char *const classes[] = { "21", "22", "23", "27", "44", "54", "P0" };
+    size_t i;
+    for (i = 0; i < sizeof classes / sizeof *classes; i++)
+        if (state != NULL && strncmp(state, classes[i], 2) == 0)
+            return 1;
+    return 0;
+}
+
+/* Keeps why values were refused, if that is what failed. It may have parts of a text, so it isn't logged. */
 static int is_refusal(struct postgresql_store *s, const PGresult *result)
 {
     const char *state = PQresultErrorField(result, PG_DIAG_SQLSTATE);
     const char *why = PQresultErrorField(result, PG_DIAG_MESSAGE_PRIMARY);
-    int is_of_values = state != NULL && (strncmp(state, "22", 2) == 0 || strncmp(state, "23", 2) == 0
-                                         || strncmp(state, "44", 2) == 0 || strcmp(state, "P0001") == 0);
-    if (!is_of_values)
+    if (!is_of_values(state))
         return 0;
     copy_cut(s->refusal, sizeof s->refusal, why != NULL ? why : state);
     log_fact(LEVEL_WARNING, "values_refused", field_text("state", state));
@@ -290,6 +299,13 @@ static int ask(struct store *base, const char *sql, const struct value *values, 
 
 /* ---- */
 
+/* A server that is another one is noticed by what it has (shard.c). */
+static int is_there(struct store *base)
+{
+    (void)base;
+    return 1;
+}
+
 static void close_it(struct store *base)
 {
     struct postgresql_store *s = (struct postgresql_store *)base;
@@ -348,7 +364,8 @@ struct store *postgresql_store_open(const char *where)
     struct postgresql_store *s = calloc(1, sizeof *s);
     if (s == NULL)
         return NULL;
-    s->base = (struct store){ own_sql, { NULL }, begin, run_values, add, refusal, settle, commit, rollback, ask, close_it };
+    s->base = (struct store){ own_sql, { NULL }, "SET CONSTRAINTS ALL IMMEDIATE", begin, run_values, add, refusal, settle,
+                              commit, rollback, ask, is_there, close_it };
     s->db = postgresql_connect(where);
     if (s->db != NULL && make_tables(s) && PQenterPipelineMode(s->db))
         return &s->base;

@@ -9,12 +9,16 @@
 #include <stdlib.h>
 #include <string.h>
 
+enum { STORE_PATH = 512 };
+
 struct sqlite_store {
     struct store base;
     sqlite3 *db;
     struct statement prepared[STORE_STATEMENTS]; /* what was given */
     const char *added;            /* the statement of the rows that are inserted together */
     struct rows rows;
+    char path[STORE_PATH];        /* where the file is, and which one is there */
+    uint64_t device, inode;
     char refusal[STORE_REFUSAL];  /* why values were refused; "" if they weren't */
     int is_fenced;                /* something that this transaction moves stood elsewhere */
 };
@@ -68,13 +72,26 @@ static void rollback(struct store *base)
     roll_back(s->db);
 }
 
+/* Whether a statement that failed is right by itself: else a table or a function isn't there. */
+static int is_right(struct sqlite_store *s, const char *sql)
+{
+    struct statement again = { NULL, 0 };
+    int answer = sql != NULL && prepare(s->db, &again, sql) == 0;
+    finalize(&again, 1);
+    return answer;
+}
+
 /* What a statement with values answered; if they were refused, that is kept. */
-static int note_refusal(struct sqlite_store *s, int answer)
+static int note_refusal(struct sqlite_store *s, int answer, const char *sql)
 {
     int why = answer != 0 ? sqlite3_errcode(s->db) : SQLITE_OK;
+    char text[STORE_REFUSAL] = "";
     s->refusal[0] = 0;
-    if (why == SQLITE_CONSTRAINT || why == SQLITE_MISMATCH || why == SQLITE_TOOBIG)
-        copy_cut(s->refusal, sizeof s->refusal, sqlite3_errmsg(s->db));
+    if (answer != 0)
+        copy_cut(text, sizeof text, sqlite3_errmsg(s->db));
+    if (why == SQLITE_CONSTRAINT || why == SQLITE_MISMATCH || why == SQLITE_TOOBIG
+        || (why == SQLITE_ERROR && is_right(s, sql)))
+        copy_cut(s->refusal, sizeof s->refusal, text);
     return answer;
 }
 
@@ -82,7 +99,7 @@ static int note_refusal(struct sqlite_store *s, int answer)
 static int settle(struct store *base)
 {
     struct sqlite_store *s = (struct sqlite_store *)base;
-    return note_refusal(s, insert_rows(&s->rows));
+    return note_refusal(s, insert_rows(&s->rows), s->added);
 }
 
 static int commit(struct store *base)
@@ -135,7 +152,7 @@ static int run_values(struct store *base, const char *sql, const struct value *v
 {
     struct sqlite_store *s = (struct sqlite_store *)base;
     struct statement *statement = bound(base, sql, values, count);
-    int answer = statement != NULL ? note_refusal(s, step_once(statement)) : -1;
+    int answer = statement != NULL ? note_refusal(s, step_once(statement), sql) : -1;
     if (answer == 0 && changes == ONE_ROW)
         s->is_fenced |= sqlite3_changes(s->db) != 1;
     return answer;
@@ -155,7 +172,7 @@ static int add(struct store *base, const char *sql, const struct value *values, 
             bind_copy(&s->rows, ++place, values[i].at, values[i].len);
         else
             bind(&s->rows.all, ++place, &values[i]);
-    return note_refusal(s, add_row(&s->rows));
+    return note_refusal(s, add_row(&s->rows), s->added);
 }
 
 static const char *refusal(struct store *base)
@@ -230,11 +247,21 @@ static int complete(sqlite3 *db)
 
 static int open_it(struct sqlite_store *s, const char *path, unsigned shard)
 {
-    char name[512];
-    if (path_of_shard(path, shard, name, sizeof name) == NULL)
+    if (path_of_shard(path, shard, s->path, sizeof s->path) == NULL)
         return -1;
-    s->db = open_database(name, tables);
-    return s->db != NULL && complete(s->db) == 0 ? 0 : -1;
+    s->db = open_database(s->path, tables);
+    return s->db != NULL && find_file(s->path, &s->device, &s->inode) == 0 && complete(s->db) == 0 ? 0 : -1;
+}
+
+static int is_there(struct store *base)
+{
+    const struct sqlite_store *s = (const struct sqlite_store *)base;
+    uint64_t device = 0, inode = 0;
+    if (find_file(s->path, &device, &inode) == 0 && device == s->device && inode == s->inode)
+        return 1;
+    log_fact(LEVEL_ERROR, "store_replaced", field_text("file", s->path),
+             field_text("text", "the file at this place has changed: it is opened again, and read from what it has"));
+    return 0;
 }
 
 struct store *sqlite_store_open(const char *path, unsigned shard)
@@ -242,7 +269,8 @@ struct store *sqlite_store_open(const char *path, unsigned shard)
     struct sqlite_store *s = calloc(1, sizeof *s);
     if (s == NULL)
         return NULL;
-    s->base = (struct store){ own_sql, { NULL }, begin, run_values, add, refusal, settle, commit, rollback, ask, close_it };
+    s->base = (struct store){ own_sql, { NULL }, NULL, begin, run_values, add, refusal, settle, commit, rollback, ask,
+                              is_there, close_it };
     if (open_it(s, path, shard) == 0)
         return &s->base;
     close_it(&s->base);

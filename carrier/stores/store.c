@@ -102,14 +102,20 @@ static int is_other(const struct reached *from, const struct reached *to)
     return from->incarnation != 0 && from->incarnation != to->incarnation;
 }
 
-int store_begin(struct store *store, unsigned shard, const struct reached *from,
-                const struct reached *to)
+int store_move(struct store *store, unsigned shard, const struct reached *from, const struct reached *to)
 {
     const struct value values[] = { number_value(shard), number_value(from->incarnation), number_value(from->offset),
                                     number_value(to->incarnation), number_value(to->offset) };
-    if (store->begin(store) != 0 || store->run(store, store->sql[MOVE_SHARD], values, 5, ONE_ROW) != 0)
+    return store->run(store, store->sql[MOVE_SHARD], values, 5, ONE_ROW);
+}
+
+int store_begin(struct store *store, unsigned shard, const struct reached *from,
+                const struct reached *to)
+{
+    const struct value value = number_value(shard);
+    if (store->begin(store) != 0 || store_move(store, shard, from, to) != 0)
         return -1;
-    return is_other(from, to) ? store->run(store, store->sql[RESET_SESSIONS], values, 1, ANY_ROWS) : 0;
+    return is_other(from, to) ? store->run(store, store->sql[RESET_SESSIONS], &value, 1, ANY_ROWS) : 0;
 }
 
 enum { ROW = 5 }; /* values of a session's row, but for its name and its history */

@@ -61,6 +61,9 @@ int store_sessions(struct store *store, const char *const *names, size_t count, 
 int store_begin(struct store *store, unsigned shard, const struct reached *from,
                 const struct reached *to);
 
+/* Within it: moves the shard from there to another offset of the same list. */
+int store_move(struct store *store, unsigned shard, const struct reached *from, const struct reached *to);
+
 /* Moves a session from what is stored, or from nothing, to this. The store notes since when it has
  * missed something at its number. */
 int store_advance(struct store *store, const char *session, const struct demand *from,
@@ -110,6 +113,7 @@ typedef int store_row(void *given, const char *const *columns);
 struct store {
     const char *const *sql;              /* its own statements, */
     const char *given[STORE_STATEMENTS]; /* and all that were given to it and are prepared */
+    const char *checks_at_once;          /* has constraints be checked with each statement of a transaction; or NULL */
 
     int (*begin)(struct store *);
 
@@ -134,6 +138,9 @@ struct store {
 
     /* Passes each row to a function, outside of a transaction. */
     int (*ask)(struct store *, const char *sql, const struct value *values, unsigned count, store_row *take, void *given);
+
+    /* Whether it is still what was opened: a file that was replaced isn't, which is reported. */
+    int (*is_there)(struct store *);
 
     void (*close)(struct store *);
 };
