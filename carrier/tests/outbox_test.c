@@ -412,16 +412,18 @@ static void test_done(struct outbox *outbox)
     check(outbox_next_frame(outbox, &number, &found, &len) == 1 && number == 2, "the next one is kept");
     outbox_end_frames(outbox);
     check(history_add(&goes_on, bytes, 3) == 0, "a frame is added to a history");
-    found_history = outbox_history(outbox, &of, 2, &done, 3);
-    check(history_is(&found_history, &goes_on), "it goes on over the frame");
-    found_history = outbox_history(outbox, &of, 2, &done, 2);
-    check(history_is(&found_history, &done), "nothing follows what is done");
-    found_history = outbox_history(outbox, &of, 2, &done, 6);
-    check(history_is(&found_history, &beside), "it stands beside its last frame");
-    check(!outbox_history(outbox, &of, 2, &done, 5).is_known, "one that lacks a frame isn't known");
-    check(!outbox_history(outbox, &of, 2, &unknown, 3).is_known, "nor one after an unknown one");
-    found_history = outbox_history(outbox, &of, 1, &unknown, 1);
-    check(history_is(&found_history, &of_none), "before the first frame it is that of none");
+    check(outbox_history(outbox, &of, 2, &done, 3, &found_history) == 0 && history_is(&found_history, &goes_on),
+          "it goes on over the frame");
+    check(outbox_history(outbox, &of, 2, &done, 2, &found_history) == 0 && history_is(&found_history, &done),
+          "nothing follows what is done");
+    check(outbox_history(outbox, &of, 2, &done, 6, &found_history) == 0 && history_is(&found_history, &beside),
+          "it stands beside its last frame");
+    check(outbox_history(outbox, &of, 2, &done, 5, &found_history) == 0 && !found_history.is_known,
+          "one that lacks a frame isn't known");
+    check(outbox_history(outbox, &of, 2, &unknown, 3, &found_history) == 0 && !found_history.is_known,
+          "nor one after an unknown one");
+    check(outbox_history(outbox, &of, 1, &unknown, 1, &found_history) == 0 && history_is(&found_history, &of_none),
+          "before the first frame it is that of none");
     outbox_rollback(outbox);
 }
 
