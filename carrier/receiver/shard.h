@@ -104,7 +104,7 @@ struct shard {
     uint64_t moved_to;             /* up to which offset it moves the shard, */
     int place;                     /* and which frame it is at */
     int is_last;                   /* it ends with this frame */
-    uint64_t alone;                /* frames up to this offset are taken alone; 0: none */
+    struct reached alone;          /* frames of this list up to this offset are taken alone */
     struct done_parts done_parts;
     size_t ended;                  /* so many of them are closed */
     struct list asked;             /* those of which the store is asked, */

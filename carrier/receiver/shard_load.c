@@ -263,8 +263,6 @@ static int place_reading(struct shard *s, uint64_t list, uint64_t end)
     uint32_t read = KRBRELAY_READ_NOTHING;
     if (krbrelay_reading_frames(it, list, end, 0, &read) != KRBRELAY_OK)
         return -1;
-    if (read == KRBRELAY_READ_ELSEWHERE)
-        s->alone = 0;
     if (read == KRBRELAY_READ_ELSEWHERE && it->stored.list != 0)
         log_fact(LEVEL_WARNING, it->stored.list != list ? "shard_made_anew" : "shard_lost_frames",
                  field_number("shard", s->number), field_number("end", end),

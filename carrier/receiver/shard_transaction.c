@@ -112,7 +112,7 @@ static enum transaction ask_fence(struct shard *s)
                ? TRANSACTION_STORED : TRANSACTION_FENCED;
 }
 
-static enum transaction open_store(struct shard *s, int end, int is_alone)
+static enum transaction open_store(struct shard *s, int end, int alone)
 {
     s->is_begun = 0;
     if (effects_are_outside())
@@ -120,7 +120,7 @@ static enum transaction open_store(struct shard *s, int end, int is_alone)
     s->is_begun = 1;
     if (begin(s, s->frames[end - 1].offset) != 0)
         return TRANSACTION_FAULT;
-    if (is_alone && s->store->checks_at_once != NULL
+    if (alone && s->store->checks_at_once != NULL
         && s->store->run(s->store, s->store->checks_at_once, NULL, 0, ANY_ROWS) != 0)
         return TRANSACTION_FAULT;
     return TRANSACTION_STORED;
@@ -170,6 +170,17 @@ static enum transaction commit(struct shard *s, int next)
 
 /* ---- Its frames */
 
+static int is_alone(const struct shard *s, int place)
+{
+    return s->alone.incarnation == s->reading.read.list && s->frames[place].offset <= s->alone.offset;
+}
+
+/* Frames up to this one are taken alone. */
+static void take_alone(struct shard *s, int place)
+{
+    s->alone = (struct reached){ s->reading.read.list, s->frames[place].offset };
+}
+
 /* Whether it has taken long enough, or has to end. */
 static int is_due(const struct shard *s, uint64_t began)
 {
@@ -177,7 +188,7 @@ static int is_due(const struct shard *s, uint64_t began)
 }
 
 /* Takes frames from the next one on: *next is the first that wasn't. */
-static enum effect_answer take_frames(struct shard *s, int end, int is_alone, int *next)
+static enum effect_answer take_frames(struct shard *s, int end, int alone, int *next)
 {
     uint64_t began = nanoseconds();
     enum effect_answer answer = EFFECT_DONE;
@@ -186,7 +197,7 @@ static enum effect_answer take_frames(struct shard *s, int end, int is_alone, in
     s->drafted = (struct drafted){ .texts = 0 };
     s->together.first = s->together.count = 0;
     while (i < end && (i == s->next || !is_due(s, began))) {
-        answer = shard_take(s, i, end, is_alone);
+        answer = shard_take(s, i, end, alone);
         if (answer != EFFECT_DONE)
             break;
         shard_note_alive(s);
@@ -197,19 +208,19 @@ static enum effect_answer take_frames(struct shard *s, int end, int is_alone, in
 }
 
 /* An effect failed. All frames up to its own are taken alone; those before it that a command took are stored. */
-static enum transaction give_up(struct shard *s, enum effect_answer answer, int next, int is_alone)
+static enum transaction give_up(struct shard *s, enum effect_answer answer, int next, int alone)
 {
     int is_first = next == s->next;
-    s->alone = s->frames[next].offset;
+    take_alone(s, next);
     if (answer != EFFECT_FAULT && effects_are_outside() && !is_first)
         return commit(s, next);
     if (s->is_begun)
         s->store->rollback(s->store);
     if (answer == EFFECT_FAULT)
-        return is_alone || s->store->refusal(s->store) == NULL ? TRANSACTION_FAULT : TRANSACTION_AGAIN;
+        return alone || s->store->refusal(s->store) == NULL ? TRANSACTION_FAULT : TRANSACTION_AGAIN;
     if (answer == EFFECT_REFUSED && effects_may_put_aside())
         return TRANSACTION_AGAIN;
-    return is_alone || is_first ? TRANSACTION_HELD : TRANSACTION_AGAIN;
+    return alone || is_first ? TRANSACTION_HELD : TRANSACTION_AGAIN;
 }
 
 /* The commit failed: where the store says that it refuses values, those of one text may be the reason. */
@@ -217,8 +228,8 @@ static enum transaction note_unstored(struct shard *s, enum transaction ended, i
 {
     if (ended != TRANSACTION_FAULT || s->store->refusal(s->store) == NULL)
         return ended;
-    if (s->alone < s->frames[next - 1].offset) {
-        s->alone = s->frames[next - 1].offset;
+    if (!is_alone(s, next - 1)) {
+        take_alone(s, next - 1);
         return TRANSACTION_AGAIN;
     }
     return TRANSACTION_HELD; /* it was alone, and is told by the store */
@@ -226,21 +237,20 @@ static enum transaction note_unstored(struct shard *s, enum transaction ended, i
 
 static enum transaction transact(struct shard *s)
 {
-    int is_alone = s->frames[s->next].offset <= s->alone;
-    int end = is_alone ? s->next + 1 : s->fetched, next = s->next;
+    int alone = is_alone(s, s->next), end = alone ? s->next + 1 : s->fetched, next = s->next;
     enum transaction ended;
     enum effect_answer answer;
     if (shard_load_frames(s, s->next, end) != 0)
         return TRANSACTION_FAULT;
-    ended = open_store(s, end, is_alone);
+    ended = open_store(s, end, alone);
     if (ended != TRANSACTION_STORED) {
         if (s->is_begun)
             s->store->rollback(s->store);
         return ended;
     }
-    answer = take_frames(s, end, is_alone, &next);
+    answer = take_frames(s, end, alone, &next);
     if (answer != EFFECT_DONE)
-        return give_up(s, answer, next, is_alone);
+        return give_up(s, answer, next, alone);
     ended = commit(s, next);
     return note_unstored(s, ended, next);
 }
