@@ -55,7 +55,7 @@ static void end_child(void *given)
         close(child->socket); /* its input ends */
         (void)kill(-child->pid, SIGTERM); /* it may have ended */
         if (!await_end(child->pid)) {
-            (void)kill(-child->pid, SIGKILL);
+            (void)kill(-child->pid, SIGKILL); /* the same */
             if (!await_end(child->pid))
                 log_fact(LEVEL_ERROR, "command_unended", field_number("process", (uint64_t)child->pid));
         }

@@ -156,7 +156,7 @@ void shard_count_unopened(struct shard_counts *counts, enum opening_answer answe
 void shard_report(const struct shard *shard, const char *event, uint64_t took);
 void shard_show(struct shard *shard, unsigned part);
 
-/* Shows it, if that wasn't done within the last second: within a long transaction. */
+/* Shows it within a transaction that takes long, each second. */
 void shard_note_alive(struct shard *shard);
 
 /* ---- Frames, in a transaction. */

@@ -193,6 +193,7 @@ static enum effect_answer take_frames(struct shard *s, int end, int alone, int *
     uint64_t began = nanoseconds();
     enum effect_answer answer = EFFECT_DONE;
     int i = s->next;
+    s->shown = began;
     s->is_last = 0;
     s->drafted = (struct drafted){ .texts = 0 };
     s->together.first = s->together.count = 0;

@@ -106,8 +106,10 @@ static const char *const sql[OUTBOX_STATEMENTS] = {
     [COUNT_STOPPED] = "SELECT count(*) FROM stopped",
     [ADD_STOPPED] = ("INSERT INTO stopped VALUES (?1, ?2, iif(?3 > 0, ?3, CAST(strftime('%s') AS INTEGER)))"
                      " ON CONFLICT (session) DO UPDATE SET reason = ?2"),
-    [COUNT_TEXTS] = "SELECT count(*) FROM (SELECT 1 FROM text LIMIT 100000)",
-    [OLDEST_TEXT] = "SELECT since FROM text ORDER BY id LIMIT 1",
+    [COUNT_TEXTS] = ("SELECT (SELECT count(*) FROM (SELECT 1 FROM text LIMIT 100000 + (SELECT texts FROM bound)))"
+                     " + (SELECT count(*) FROM (SELECT 1 FROM sealed LIMIT 100000 + (SELECT texts FROM bound)))"),
+    [OLDEST_TEXT] = ("SELECT since FROM (SELECT since, session FROM text ORDER BY id LIMIT 10000)"
+                     " WHERE session NOT IN (SELECT session FROM stopped) LIMIT 1"),
     [ADD_OPENED] = ("INSERT OR REPLACE INTO opened (name, stream, before, etype, turn, since, shard,"
                     " closed, kvno, wrapping, key) VALUES (?, ?, ?, ?, ?, ?, ?, ?, ?, ?, ?)"),
     [SELECT_OPENED] = "SELECT " OPENED " FROM opened WHERE name = ?",
@@ -260,9 +262,14 @@ int outbox_count_texts(struct outbox *o, uint64_t *count)
     return read_number(o, COUNT_TEXTS, count);
 }
 
-int outbox_oldest_text(struct outbox *o, uint64_t *second)
+int outbox_oldest_text(struct outbox *o, int *is_there, uint64_t *second)
 {
-    return read_number(o, OLDEST_TEXT, second);
+    struct statement *select = &o->statements[OLDEST_TEXT];
+    int row = step_row(select);
+    *is_there = row == 1;
+    *second = row == 1 ? (uint64_t)sqlite3_column_int64(select->at, 0) : 0;
+    end_rows(select);
+    return row >= 0 ? 0 : -1;
 }
 
 int outbox_count_stopped(struct outbox *o, uint64_t *count)

@@ -103,11 +103,14 @@ enum outbox_answer outbox_owned(struct outbox *outbox);
  * is reported: what this process stores is lost. */
 int outbox_is_there(const struct outbox *outbox);
 
-/* How many texts there are, of the first 100,000; when the oldest was put in, in seconds since 1970, 0
- * if there is none or it isn't known; and how many sessions are stopped. 0, or -1 after a fault. */
+/* How many texts wait, for being sealed or for a receipt, as the bound counts them: as many as it has and 100,000 of each
+ * at most; and how many sessions are stopped. 0, or -1 after a fault. */
 int outbox_count_texts(struct outbox *outbox, uint64_t *count);
-int outbox_oldest_text(struct outbox *outbox, uint64_t *second);
 int outbox_count_stopped(struct outbox *outbox, uint64_t *count);
+
+/* Whether a text of a session that isn't stopped is among the first 10,000 that aren't sealed, and when the oldest was put
+ * in, in seconds since 1970, 0 if that isn't known. 0, or -1 after a fault. */
+int outbox_oldest_text(struct outbox *outbox, int *is_there, uint64_t *second);
 
 /* ---- Within a transaction. It begins with OUTBOX_OK; OUTBOX_AGAIN: another process's transaction took long, or who the
  * owner is can't be read now. OUTBOX_TAKEN: another process is the owner. */

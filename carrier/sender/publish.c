@@ -13,7 +13,8 @@ enum {
                      * many of them leave is krb_engine's */
     SERVED = 256,   /* services of one turn, */
     LEFT = 1024,    /* and frames that leave in one */
-    HELD = 100      /* milliseconds until a session that is held is looked at again */
+    HELD = 100,     /* milliseconds until a session that is held is looked at again, */
+    AWAY = 10000    /* and after which a shard whose list can't be had is told */
 };
 
 /* ---- What is counted */
@@ -285,12 +286,19 @@ static void find_list(struct sender *s, struct lane *lane)
     uint64_t list = 0;
     int has_list = s->carrier->make(s->carrier, lane->shard, &list) == 0 && list != 0;
     size_t i;
+    lane->unlisted = has_list ? 0 : lane->unlisted != 0 ? lane->unlisted : milliseconds();
     if (has_list == (int)lane->flow.has_list && (!has_list || list == lane->flow.list))
         return;
     lane->flow.has_list = (uint32_t)has_list;
     lane->flow.list = has_list ? list : 0;
     for (i = 0; i < lane->members.count && has_list; i++)
         publish_note(s, lane->members.at[i]);
+}
+
+int publish_is_shard_away(const struct sender *s, const struct sending *it)
+{
+    uint64_t since = s->lanes[it->lane].unlisted;
+    return since != 0 && milliseconds() - since >= AWAY;
 }
 
 /* Sessions whose time has come. */

@@ -316,6 +316,8 @@ static enum outbox_answer keep_stands(struct sender *s)
         if (krbrelay_sending_state(&it->end, &under_way, &room, &settled, &it->stands_now) != KRBRELAY_OK
             || it->stopped_at == 1)
             it->stands_now = KRBRELAY_STANDS_NOT; /* one that is stopped has its reason in `stopped` */
+        else if (it->uncarried > 0 && publish_is_shard_away(s, it))
+            it->stands_now = KRBRELAY_STANDS_UNCONFIRMED;
         s->standing += it->stands_now != KRBRELAY_STANDS_NOT;
         changed += it->stands != it->stands_now && it->is_stored;
     }

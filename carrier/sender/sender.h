@@ -34,6 +34,7 @@ struct lane {
     struct list members;         /* its sessions, by their places */
     struct krbrelay_flow flow;   /* the list to which frames are published, and how many are under way */
     struct krbrelay_queue queue; /* whose turn it is */
+    uint64_t unlisted;           /* since this moment its list can't be had; 0: it can, or nobody asked */
     uint64_t uncarried, unconfirmed, unreceipted; /* frames of its sessions, as of all */
 };
 
@@ -182,6 +183,9 @@ void texts_give_up(struct sender *s, sqlite3_int64 seen);
 
 /* Does what krb_engine says of sessions whose turn it is. 1 if more wait for theirs. */
 int publish_all(struct sender *s);
+
+/* Whether the list of a session's shard can't be had for long. */
+int publish_is_shard_away(const struct sender *s, const struct sending *it);
 
 /* Counts the frames that are carried now, and answers how many. Waits for the first at most so long. */
 size_t publish_count_carried(struct sender *s, int milliseconds);

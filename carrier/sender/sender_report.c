@@ -18,10 +18,10 @@ static const struct metric metrics[] = {
     { NAME "sealing_seconds_total", "counter", "Time for sealing", NULL },
     { NAME "outbox_seconds_total", "counter", "Time for the outbox", NULL },
     { NAME "carrier_seconds_total", "counter", "Time for the carrier, with waits for its confirmations", NULL },
-    { NAME "waiting_texts", "gauge", "Texts in the outbox, of the first 100,000", NULL },
+    { NAME "waiting_texts", "gauge", "Texts that wait for being sealed or for a receipt, as --max-waiting counts them", NULL },
     { NAME "waiting_texts_limit", "gauge", "Texts that may wait, as --max-waiting says; 0: any number", NULL },
-    { NAME "oldest_text_seconds", "gauge", "Since the oldest of them was put in, if that is known",
-      NULL },
+    { NAME "oldest_text_seconds", "gauge", "Since the oldest text was put in that waits for being sealed, and whose session"
+      " isn't stopped, if that is known", NULL },
     { NAME "receipts_total", "counter", "Receipts that covered more than those before", NULL },
     { NAME "frames_without_receipt", "gauge", "Frames that are carried and wait for a receipt", NULL },
     { NAME "held_sessions", "gauge", "Sessions that wait for a ticket, or for the one before", NULL },
@@ -52,14 +52,13 @@ static void show_lane(const struct lane *lane, unsigned part)
 }
 
 /* How long the oldest text has waited, 0 if none waits; NAN if that isn't known. */
-static double age_of_oldest(struct sender *s, double texts)
+static double age_of_oldest(struct sender *s)
 {
     uint64_t since = 0, now = read_clock().seconds;
-    if (texts == 0)
-        return 0;
-    if (outbox_oldest_text(&s->outbox, &since) != 0 || since == 0)
+    int is_there = 0;
+    if (outbox_oldest_text(&s->outbox, &is_there, &since) != 0 || (is_there && since == 0))
         return NAN;
-    return now > since ? (double)(now - since) : 0;
+    return is_there && now > since ? (double)(now - since) : 0;
 }
 
 /* What the outbox counts, or NAN if it can't be read now. */
@@ -71,12 +70,11 @@ static double counted(struct sender *s, int (*count)(struct outbox *, uint64_t *
 
 void sender_show(struct sender *s)
 {
-    double texts = counted(s, outbox_count_texts);
     double silent = (double)(nanoseconds() - s->rose) / 1e9;
     const double values[METRICS] = {
         (double)s->sealing.frames, (double)s->published, (double)s->again,
         (double)s->sealing.nanoseconds / 1e9, (double)s->storing / 1e9, (double)s->carrying / 1e9,
-        texts, (double)s->options.most_waiting, age_of_oldest(s, texts), (double)s->receipts,
+        counted(s, outbox_count_texts), (double)s->options.most_waiting, age_of_oldest(s), (double)s->receipts,
         (double)s->unreceipted, (double)s->held, (double)s->standing,
         counted(s, outbox_count_stopped), silent, NAN,
     };

@@ -220,10 +220,11 @@ int sender_note_before(struct sender *s, struct sending *it)
 int sender_is_old(const struct sender *s, const struct sending *it)
 {
     const struct begun *begun = it->begun;
+    uint64_t now = read_clock().seconds;
     if (begun == NULL || it->sealed == 1 || it->stream->is_renewed)
         return 0; /* it has a line, or nothing was sealed yet, or it begins in this transaction */
-    return begun->since + s->options.life <= read_clock().seconds || begun->since <= s->renew
-           || it->sealed > NUMBERS;
+    return begun->since + s->options.life <= now || begun->since > now + 1 /* the clock was ahead */
+           || begun->since <= s->renew || it->sealed > NUMBERS;
 }
 
 enum seal_answer sender_renew(struct sender *s, struct sending **it, sqlite3_int64 id)

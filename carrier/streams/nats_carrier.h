@@ -45,10 +45,12 @@ struct nats_carrier {
     uint64_t known;                     /* it has been here: what is gone before it was told */
     uint64_t pending;                   /* frames after the last, when it was delivered */
     uint64_t heard;                     /* when the consumer said something last, in milliseconds */
+    int has_others;                     /* the stream has other subjects than the shard's */
     natsSubscription *reader;
     natsMsg *held[NATS_HELD];
     int held_count;
-    natsSubscription *receipts;         /* all that are published, from the first look on */
+    natsSubscription *receipts;         /* all that are published, from the first look on, */
+    int has_read_kept;                  /* and those that were there before were read */
     struct krbrelay_pause first;        /* a receiver's wait so long for their stream at first */
     int has_told_replicas;              /* it was told that it has too few replicas */
     natsSubscription *left[NATS_LEFT];  /* those that were left last: nothing comes for them any more */
@@ -77,6 +79,7 @@ void nats_name_stream(unsigned stream, char name[NATS_NAME]);
 struct nats_stream {
     uint64_t created, last, messages, replicas;
     int is_by_limits, is_in_files, keeps_all; /* its retention, its storage, and of each subject */
+    char subject[NATS_NAME]; /* its subject, if it has one alone; or "" */
 };
 
 /* Reads it from an answer: NATS_OK, NATS_NOT_FOUND where there is no such stream, or NATS_ERR. */
@@ -89,8 +92,9 @@ natsStatus nats_judge_stream(const struct nats_carrier *c, const char *name, con
 natsStatus nats_ask_stream(struct nats_carrier *c, const char *name, struct nats_stream *it);
 
 /* Has a consumer made that is kept in memory and awaits no acknowledgements, and waits for it; `how` are further members
- * of its configuration. Where it isn't there soon, others are tried: servers may have given it to a node that is away. */
-natsStatus nats_consume(struct nats_carrier *c, const char *stream, const char *how, natsSubscription **reader);
+ * of its configuration. Where it isn't there soon, others are tried: servers may have given it to a node that is away.
+ * `longer` are milliseconds that servers may need for it beside. */
+natsStatus nats_consume(struct nats_carrier *c, const char *stream, const char *how, int longer, natsSubscription **reader);
 
 /* The offset of a message of a consumer, which of its messages it is, and how many come after it: 1, or 0 if it says
  * nothing of that. */

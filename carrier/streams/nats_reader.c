@@ -77,20 +77,26 @@ static int check_stream(struct nats_carrier *c)
 {
     struct nats_stream it;
     natsStatus status = ask_shard(c, c->shard, &it);
+    char subject[NATS_NAME];
+    write_whole(subject, sizeof subject, "krb.%u.*", c->shard);
+    c->has_others = strcmp(it.subject, subject) != 0;
     if (status == NATS_OK)
         return (c->incarnation != 0 && it.created != c->incarnation) || it.last < c->after ? CARRIER_CHANGED : 0;
     return status == NATS_NOT_FOUND && c->incarnation != 0 ? CARRIER_CHANGED : CARRIER_FAULT;
 }
 
-/* A consumer of the stream that delivers all after the place where the reader stands. */
+/* A consumer of the stream that delivers all after the place where the reader stands. It has a filter only where the
+ * stream has other subjects: for one that filters a server reads its index anew for each frame. */
 static natsStatus make_consumer(struct nats_carrier *c, const char *name)
 {
-    char how[NATS_TEXT];
+    char how[NATS_TEXT], filter[NATS_SUBJECT] = "";
     natsStatus status;
+    if (c->has_others)
+        write_whole(filter, sizeof filter, "\"filter_subject\":\"krb.%u.*\",", c->shard);
     write_whole(how, sizeof how, "\"deliver_policy\":\"by_start_sequence\",\"opt_start_seq\":%llu,"
-                "\"filter_subject\":\"krb.%u.*\",\"flow_control\":true,\"idle_heartbeat\":%d000000",
-                (unsigned long long)c->after + 1, c->shard, HEARTBEAT);
-    status = nats_consume(c, name, how, &c->reader);
+                "%s\"flow_control\":true,\"idle_heartbeat\":%d000000",
+                (unsigned long long)c->after + 1, filter, HEARTBEAT);
+    status = nats_consume(c, name, how, 0, &c->reader);
     return status == NATS_OK ? natsSubscription_SetPendingLimits(c->reader, -1, PENDING) : status;
 }
 

@@ -8,7 +8,8 @@
 
 #include <string.h>
 
-enum { FIRST = 1000 }; /* milliseconds for which the first receipts wait until their stream is there */
+enum { FIRST = 1000 };        /* milliseconds for which the first receipts wait until their stream is there */
+enum { A_MILLISECOND = 20 };  /* so many messages a server may find in one, for a consumer of the last of each subject */
 
 /* Tells once that a node's end would take the receipts with it. */
 void nats_check_replicas(struct nats_carrier *c, const struct nats_stream *it)
@@ -63,13 +64,15 @@ static void give(natsMsg *message, carrier_receipt *take, void *given)
         take(given, name + 1, receipt, (size_t)natsMsg_GetDataLength(message));
 }
 
-/* Passes those that are kept, of which there are some. */
-static natsStatus read_kept(struct nats_carrier *c, carrier_receipt *take, void *given)
+/* Passes those that are kept, of which there are so many. */
+static natsStatus read_kept(struct nats_carrier *c, uint64_t messages, carrier_receipt *take, void *given)
 {
     natsSubscription *reader = NULL;
     struct nats_place place = { .left = 1 };
     natsStatus status = nats_consume(c, NATS_RECEIPTS_NAME, "\"deliver_policy\":\"last_per_subject\",\"filter_subject\":\""
-                                     NATS_RECEIPTS_SUBJECTS "\"", &reader);
+                                     NATS_RECEIPTS_SUBJECTS "\"", (int)(messages / A_MILLISECOND), &reader);
+    if (status == NATS_OK)
+        status = natsSubscription_SetPendingLimits(reader, -1, -1); /* none is left out */
     while (status == NATS_OK && place.left > 0) {
         natsMsg *message = NULL;
         status = nats_await(reader, &message, 2 * c->patience);
@@ -88,27 +91,29 @@ natsStatus nats_hear_receipts(struct nats_carrier *c)
     return natsConnection_SubscribeSync(&c->receipts, c->connection, NATS_RECEIPTS_SUBJECTS);
 }
 
-/* Begins to hear them, and reads what is kept: without it a sender hears what it needs by its probes. */
+/* Begins to hear them, and reads what is kept. */
 static natsStatus begin_to_hear(struct nats_carrier *c, carrier_receipt *take, void *given)
 {
-    natsStatus status = nats_hear_receipts(c), kept;
+    natsStatus status = c->receipts == NULL ? nats_hear_receipts(c) : NATS_OK;
     struct nats_stream it;
-    if (status != NATS_OK)
-        return status;
-    kept = nats_ask_stream(c, NATS_RECEIPTS_NAME, &it);
-    if (kept == NATS_OK)
+    if (status == NATS_OK)
+        status = nats_ask_stream(c, NATS_RECEIPTS_NAME, &it);
+    if (status == NATS_OK)
         nats_check_replicas(c, &it);
-    if (kept == NATS_OK && it.messages > 0)
-        kept = read_kept(c, take, given);
-    if (kept != NATS_OK && kept != NATS_NOT_FOUND)
-        (void)nats_report("the last receipts", kept); /* CARRIER_FAULT, as for each fault */
-    return NATS_OK;
+    if (status == NATS_OK && it.messages > 0)
+        status = read_kept(c, it.messages, take, given);
+    if (status == NATS_NOT_FOUND)
+        status = NATS_OK; /* there are none */
+    c->has_read_kept = status == NATS_OK;
+    return status;
 }
 
 int nats_receipts(struct carrier *base, carrier_receipt *take, void *given)
 {
     struct nats_carrier *c = (struct nats_carrier *)base;
-    natsStatus status = c->receipts == NULL ? begin_to_hear(c, take, given) : NATS_OK;
+    natsStatus status = c->has_read_kept ? NATS_OK : begin_to_hear(c, take, given);
+    if (status != NATS_OK)
+        return nats_report("the last receipts", status);
     while (status == NATS_OK) {
         natsMsg *message = NULL;
         status = natsSubscription_NextMsg(&message, c->receipts, 0);

@@ -104,6 +104,17 @@ void nats_name_stream(unsigned stream, char name[NATS_NAME])
         write_whole(name, NATS_NAME, "KRB_%u", stream);
 }
 
+/* The subject of a stream that has one alone; or "". */
+static void read_subject(natsMsg *answer, char subject[NATS_NAME])
+{
+    size_t left = 0, len;
+    const char *place = after(answer, "\"subjects\":[\"", &left), *end = place != NULL ? memchr(place, '"', left) : NULL;
+    len = end != NULL ? (size_t)(end - place) : 0;
+    subject[0] = 0;
+    if (len > 0 && len < NATS_NAME && left > len + 1 && end[1] == ']')
+        write_whole(subject, NATS_NAME, "%.*s", (int)len, place);
+}
+
 natsStatus nats_read_stream(natsMsg *answer, struct nats_stream *it)
 {
     *it = (struct nats_stream){ .created = read_created(answer) };
@@ -115,6 +126,7 @@ natsStatus nats_read_stream(natsMsg *answer, struct nats_stream *it)
     it->is_by_limits = nats_says(answer, "\"retention\":\"limits\"");
     it->is_in_files = nats_says(answer, "\"storage\":\"file\"");
     it->keeps_all = (int64_t)nats_number_after(answer, "\"max_msgs_per_subject\":") <= 0;
+    read_subject(answer, it->subject);
     return it->created != 0 ? NATS_OK : NATS_ERR;
 }
 
@@ -271,11 +283,11 @@ static void end_others(struct nats_carrier *c, natsSubscription **tried, int cou
             nats_leave(c, &tried[i]);
 }
 
-natsStatus nats_consume(struct nats_carrier *c, const char *stream, const char *how, natsSubscription **reader)
+natsStatus nats_consume(struct nats_carrier *c, const char *stream, const char *how, int longer, natsSubscription **reader)
 {
     natsSubscription *tried[TRIES] = { NULL };
     unsigned long first = c->asked + 1, number = 0;
-    int count = 0, wait = SOON + 2 * c->answered, is_there;
+    int count = 0, wait = SOON + 2 * c->answered + longer, is_there;
     natsStatus status = NATS_TIMEOUT;
     natsMsg *answer = NULL;
     while (status == NATS_TIMEOUT && count < TRIES) {

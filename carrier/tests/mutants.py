@@ -55,19 +55,22 @@ EDITS = {
 .carried = end->progress.carried, .done = end->progress.carried,
 """),
     "receipts of other frames count": ("sender_receipts.c", """\
-    return own.is_known ? own : receipt->history;
+    if (!own->is_known)
 """, """\
-    return own.is_known ? receipt->history : own;
+    if (own->is_known)
 """),
     "receipts from before aren't read": ("sender.c", """\
-    receipts_hear(s); /* before anything is sealed */
-""", ""),
+    if (!s->has_heard)
+        receipts_hear(s);
+""", """\
+    s->has_heard = 1;
+"""),
     "later texts are taken first": ("texts.c", """\
     if ((*it)->has_texts || is_left(*it, text))
 """, """\
     if (is_left(*it, text))
 """),
-    "receipts aren't sealed again": ("shard.c", """\
+    "receipts aren't sealed again": ("shard_transaction.c", """\
         if (it->end.owed != 0)
             list_add""", """\
         if (it->end.owed > KRBRELAY_ASKS_NOTHING)
