@@ -81,9 +81,10 @@ OTHER_VERSION = "7.8.9"         # no part of which is one of a version here
 # Prose whose numbers of a thousand and more are limits, but for the limit before the present one.
 # Tests and benchmarks have other sizes.
 PROSE = ("crates/*/src/**/*.rt", HEADER, "docs/C.md", "docs/PYTHON.md", "docs/USE.md",
-         PAGES + "/*.3", "python/krbrelay/*.py")
-OTHER_SIZES = re.compile(r"_tests/|/tests\.rt$|/krb_bench/")
-NO_LIMITS = {"crates/krb_der/src/laws.rt": {65_000}}
+         PAGES + "/*.3", "python/krbrelay/*.py", "carrier/*.md", "carrier/man/*", "carrier/*/*.[ch]")
+OTHER_SIZES = re.compile(r"_tests/|/tests\.rt$|/krb_bench/|^carrier/(tests|simulation)/")
+NO_LIMITS = {"crates/krb_der/src/laws.rt": {65_000}, "carrier/README.md": {1_024, 86_400},
+             "carrier/sender/outbox.h": {10_000, 100_000}}
 WALKS = "CONTRIBUTING.md"
 SOURCES = ("tables/*", "crates/**/*", "python/**/*", "tools/**/*", "docs/*.md", "docs/*.1",
            "c/**/*", "tests/**/*", "conformance/**/*", "kerberos/**/*", "carrier/**/*",

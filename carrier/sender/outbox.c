@@ -97,10 +97,10 @@ static const char *const sql[OUTBOX_STATEMENTS] = {
     [SELECT_SENDING] = "SELECT DISTINCT session FROM frame",
     [SELECT_STOPS] = "SELECT name FROM session WHERE stop != x''",
     [SELECT_STOP] = "SELECT stop, stop_since FROM session WHERE name = ? AND stop != x''",
-    [SET_STOP] = ("INSERT INTO session (name, next, carried, at, shard, done, stop, stop_since)"
-                  " VALUES (?1, ?3, ?4, 0, ?5, ?4, ?2, CAST(strftime('%s') AS INTEGER))"
-                  " ON CONFLICT (name) DO UPDATE SET stop = ?2, stop_since ="
-                  " iif(stop = x'', CAST(strftime('%s') AS INTEGER), stop_since)"),
+    [ADD_PROGRESS] = ("INSERT INTO session (name, next, carried, at, shard, done) VALUES (?1, ?2, ?3, 0, ?4, ?3)"
+                     " ON CONFLICT DO NOTHING"),
+    [SET_STOP] = ("UPDATE session SET stop_since = iif(stop = x'', CAST(strftime('%s') AS INTEGER), stop_since),"
+                  " stop = ?1 WHERE name = ?2"),
     [DROP_STOPPED] = "DELETE FROM stopped",
     [END_STOPPED] = "DELETE FROM stopped WHERE session = ?",
     [COUNT_STOPPED] = "SELECT count(*) FROM stopped",
@@ -435,13 +435,14 @@ int outbox_add_stopped(struct outbox *o, const char *session, const char *reason
 
 int outbox_set_stop(struct outbox *o, const struct session *session, const struct stop *stop)
 {
-    struct statement *set = &o->statements[SET_STOP];
-    bind_text(set, 1, session->name);
-    bind_bytes(set, 2, stop->receipt, stop->len);
-    bind_number(set, 3, session->first);
-    bind_number(set, 4, session->first - session->has_opening);
-    bind_number(set, 5, session->shard);
-    return step_once(set);
+    struct statement *add = &o->statements[ADD_PROGRESS], *set = &o->statements[SET_STOP];
+    bind_text(add, 1, session->name);
+    bind_number(add, 2, session->first);
+    bind_number(add, 3, session->first - session->has_opening);
+    bind_number(add, 4, session->shard);
+    bind_bytes(set, 1, stop->receipt, stop->len);
+    bind_text(set, 2, session->name);
+    return step_once(add) == 0 ? step_once(set) : -1;
 }
 
 int outbox_find_stop(struct outbox *o, const char *session, struct stop *stop)
