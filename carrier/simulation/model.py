@@ -1,4 +1,4 @@
-"""A model of krb_engine and krb_engine, which is compared with the proved ends: it isn't proved, and nothing ships it.
+"""A model of krb_engine, which is compared with the proved ends: it isn't proved, and nothing ships it.
 
 Each function is what the definition of its name in crates/krb_engine/specs says, and the classes have the
 names and calls of krbrelay.engine, with which compared.py compares them. `plants` are faults, of which the

@@ -8,7 +8,7 @@ the only one that repeats, and a receipt is the only word that deletes.
     sending.sealed(3)                           # three frames are stored
     command = sending.serve(room=8, now=now)    # Publish(number=0, count=3)
 
-Each call is proved (krb_engine, krb_engine); docs/ENGINE.md has the events and the commands.
+Each call is proved (krb_engine); docs/ENGINE.md has the events and the commands.
 """
 from __future__ import annotations
 

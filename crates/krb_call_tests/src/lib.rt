@@ -3,12 +3,9 @@
 //! one that C would write. What else the exports for C answer is tested in `krb_c` and by programs in C
 //! (`c/library`).
 //!
-//! The tests of [`krb_engine`] and [`krb_engine`]: each public function once, and each function whose
-//! contract is a law.
-//!
-//! The tests of [`krb_laws`], [`krb_laws`] and [`krb_carry`]: each function that calls the API
-//! gives and takes the frames of an independent sealer, as `tests/frames.py` prints them, and each
-//! function whose contract is a law is called once.
+//! The tests of [`krb_engine`], [`krb_laws`] and [`krb_carry`]: each public function of the first once, each
+//! function of the second that gives and takes frames, with those of the independent sealer, and each function
+//! whose contract is a law.
 #![tactic(auto)]
 
 #[cfg(test)]

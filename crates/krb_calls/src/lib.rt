@@ -1,19 +1,15 @@
-//! Which field of a struct a C program filled in wrongly: for whoever got `KRBRELAY_ARGUMENT`,
-//! `KRBRELAY_MODE` or `KRBRELAY_ADDRESS` from a call that takes the struct.
+//! Calls of many messages over flat structs and buffers of the caller's, as C has them, and which field of a struct is
+//! wrong: what `krb_c` exports under C's names.
 //!
-//! Each check names the first field, in the order of the struct, that isn't as it has to be, and none if
-//! and only if the struct is one that the calls take.
+//! Which field a C program filled in wrongly is for whoever got `KRBRELAY_ARGUMENT`, `KRBRELAY_MODE` or
+//! `KRBRELAY_ADDRESS` from a call that takes the struct. Each check names the first field, in the order of the
+//! struct, that isn't as it has to be, and none if and only if the struct is one that the calls take.
 //!
-//! Sealing of several messages KRB-SAFE or KRB-PRIV (RFC 4120) in one call over flat structs and buffers
-//! of the caller's, as C has them: what `krb_c` exports under C's names.
+//! Several messages KRB-SAFE or KRB-PRIV (RFC 4120) are sealed in one call, all or none. A [`ManyFault`] says why
+//! nothing was done: of a message it is the fault of the first that isn't sealed, which is the one that its own call
+//! would have.
 //!
-//! All messages are sealed or none. A [`ManyFault`] says why nothing was done: of a message it is the
-//! fault of the first that isn't sealed, which is the one that its own call would have.
-//!
-//! Frames of one session opened in one call, over flat structs and one buffer of the caller's, as C has
-//! them: what `krb_c` exports under C's names.
-//!
-//! Each frame is taken as a call of its own takes it after the frames before it
+//! Of several frames of one session each is taken as a call of its own takes it after the frames before it
 //! ([`LaneReceiver::take_numbered`](krb_structs::LaneReceiver::take_numbered)), with the room of the buffer
 //! that is left. [`take_many_into`] computes the integrity codes of eight frames side by side. What is left
 //! over is taken one frame at a time.

@@ -14,7 +14,7 @@
 //! }
 //! ```
 //!
-//! [`sending_laws`] say what holds of whatever happens. Whose turn it is says krb_engine.
+//! [`sending_laws`] say what holds of whatever happens, and [`liveness_laws`] that all is delivered in the end.
 //!
 //! Whose turn it is, and how long to wait: a queue of sessions that have something to do, and pauses
 //! that grow.

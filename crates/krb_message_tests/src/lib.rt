@@ -1,17 +1,8 @@
-//! The tests of the libraries that krb_seal stands on, [`krb_aes`], [`krb_base`],
-//! [`krb_chains`], [`krb_digests`], [`krb_keys`], [`krb_time`], [`krb_tlv`] and [`krb_der`], and of [`krb_record`], over what these have public:
-//! vectors of the standards, and messages worked out by hand. What a reader refuses is in
-//! `tests/jobs`. They stand in a crate of their own, which has no public item, so that each
-//! library is proved once, and the tests are proved beside krb_seal.
-//!
-//! The tests of [`krb_seal`] and [`krb_peers`], over what these have public: frames of an independent
-//! sealer, the order of records, and which allocation may fail. What an opener or a receiver refuses
-//! is in `tests/jobs`. They stand in a crate of their own, which has no public item, so that
-//! each library is proved once.
-//!
-//! The tests of [`krb_bulk`], over what it has public: frames of an independent sealer, and what is
-//! refused. They stand in a crate of their own, which has no public item, so that the library is proved
-//! once.
+//! The tests of the libraries from [`krb_base`] and [`krb_record`] to [`krb_seal`], [`krb_bulk`] and [`krb_peers`], over
+//! what these have public: vectors of the standards, messages worked out by hand, frames of an independent
+//! sealer, the order of records, and which allocation may fail. What a reader, an opener or a receiver refuses is
+//! in `tests/jobs`. They stand in a crate of their own, which has no public item, so that each library is
+//! proved once.
 #![tactic(auto)]
 
 #[cfg(test)]

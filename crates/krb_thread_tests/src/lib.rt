@@ -1,18 +1,14 @@
-//! Tests of [`krb_lane`], of what no clause says: calls that succeed, a sender that waits for room,
-//! and a lane whose allocations fail. They stand in a crate of their own, which has no public item,
-//! so that the lane is proved once and its tests are proved beside the crates that stand on it.
+//! Tests of what no clause says, of [`krb_lane`]: calls that succeed, a sender that waits for room, and a lane
+//! whose allocations fail.
 //!
-//! Tests of both relays, of what no clause says: calls that succeed, gates, which allocation may
-//! fail, and one worked relay of each. What whole relays print is in `tests/jobs`.
+//! Of both relays: calls that succeed, gates, which allocation may fail, and one worked relay of each.
+//! `stepped` tests the relay of `krb_core`, which one thread steps, and `threads` that of `krb_relay`, which has
+//! a worker for each sender. What whole relays print is in `tests/jobs`.
 //!
-//! `stepped` tests the relay of `krb_core`, which one thread steps, and `threads` that of
-//! `krb_relay`, which has a worker for each sender. This crate has no public item.
-//!
-//! Tests of `krbrelay` from its job files up, of what no clause says and what can't be seen from
-//! outside of the program: the seal calls of workers (module `gate`), a sealer that refuses a call
-//! (`stopped`), and what callers of krb_job see (`job`). What can be driven from outside is in
-//! `tests/jobs`, as jobs and their lines, and in `tests/sweep`, as a read or a write that
-//! fails at each of its calls.
+//! Of `krbrelay` from its job files up, what can't be seen from outside of the program: the seal calls of
+//! workers (module `gate`), a sealer that refuses a call (`stopped`), and what callers of krb_job see (`job`).
+//! What can be driven from outside is in `tests/jobs`, as jobs and their lines, and in `tests/sweep`, as a
+//! read or a write that fails at each of its calls.
 //!
 //! The crate has tests alone and no public item, so that the libraries are proved once and not a
 //! second time under their tests.

@@ -125,7 +125,7 @@ def draw() -> str:
     for place, part in enumerate(PARTS):
         panel(picture, place, part)
     stores(picture)
-    for row, words in enumerate(("The panels are parts of krb_engine and krb_engine; the caller keeps what is in dashed boxes.",
+    for row, words in enumerate(("The panels are parts of krb_engine; the caller keeps what is in dashed boxes.",
                                  "Only the sender repeats: what isn't confirmed, or what a receipt asks for. Only a"
                                  " receipt deletes.")):
         picture.text(EDGE, STORES + TALL + 28 + ROW * row, words, "muted")
