@@ -124,6 +124,7 @@ PARTS = [
     Part("pytest tests/test_tools.py", 2, (PYTEST, COMPILER, CRYPTOGRAPHY), over=()),
     Part("pytest tests/test_release.py", 1, (PYTEST,), over=()),
     Part("tools/tables --check", 1, over=()),
+    Part("tools/house --check", 1, over=()),
     Part("pytest carrier/tests/test_statements.py", 1, (PYTEST,), over=()),
     Part("pytest carrier/tests/test_packages.py", 1, (PYTEST,), over=()),
     Part("pytest carrier/tests/test_effects.py", 10, (PYTEST, "rt", COMPILER, MAKE, SQLITE), LIBRARY.command, over=()),
