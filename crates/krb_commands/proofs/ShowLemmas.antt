@@ -7,7 +7,7 @@ use Rattle.std.proofs.Math.Bool.{and_assoc}
 use Rattle.std.proofs.KnownBytes.{Appends-trans, Consumes-all}
 use Rattle.krb_etype.specs.TypedKey.{TypedKey}
 use Rattle.krb_commands.specs.declared.form.Form.{Form}
-use Rattle.krb_commands.specs.declared.form.Form.TheVariants.{Lines, Any}
+use Rattle.krb_commands.specs.declared.form.Form.TheVariants.{Any}
 use Rattle.krb_commands.specs.declared.reading.Reading.{Reading}
 use Rattle.krb_commands.specs.declared.fault.Fault.{Fault}
 use Rattle.krb_commands.specs.Digits.{digits_in, digits_of}

@@ -11,7 +11,7 @@ use Rattle.krb_commands.specs.declared.inside.Inside.TheVariants.{Unasked, Opene
 use Rattle.krb_commands.specs.declared.reading.Reading.{Reading}
 use Rattle.krb_commands.specs.declared.reading.Reading.TheVariants as read
 
--- they are an even number of hexadecimal digits, in either case, and these are their bytes
+-- the digits are an even number, in either case, and these are their bytes
 abbrev pub HasBytes : List ℕ → List ℕ → Type 0
 HasBytes digits bytes = decode_of digits ≡ Ok bytes
 

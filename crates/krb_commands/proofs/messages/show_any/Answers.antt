@@ -3,7 +3,6 @@ use Rattle.krb_commands.specs.declared.form.Form.TheVariants.{Any}
 use Rattle.krb_commands.specs.Key.{key_of}
 use Rattle.krb_commands.specs.Reading.{is_message}
 use Rattle.krb_commands.proofs.ShowLemmas.{nothing_of_input, whole_shown, whole_prefix, on_err}
-use Rattle.krb_commands.proofs.OutputLemmas.{AppendsPrefix-whole}
 use Rattle.krb_commands.proofs.messages.show_any.Goals as goal
 
 pub returns-in_err-whole-clause-prefix : goal.returns-in_err-whole-clause-prefix
