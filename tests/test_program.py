@@ -321,15 +321,15 @@ def test_what_was_sealed(t, texts, other):
           ''.join(f'{line}\n' for line in lines).encode())
 
 
-@named('key, words, data, status, after', RUNS.under_keys())
-def test_shown_under_a_key(t, tmp_path, key, words, data, status, after):
+@named('key, form, words, data, status, after', RUNS.under_keys())
+def test_shown_under_a_key(t, tmp_path, key, form, words, data, status, after):
     """The fields are those of `show` without a key, and what the key gives comes after them."""
     file = tmp_path / 'key'
     file.write_bytes(key)
-    fields = t.run(['show'], data)[1].decode().splitlines()
+    fields = t.run(['show', *form], data)[1].decode().splitlines()
     assert len(fields) == len(after)
     lines = ''.join(f'{front}{back}\n' for front, back in zip(fields, after))
-    check(t.run(['show', '--key', str(file), *words], data), status, lines.encode(), b'')
+    check(t.run(['show', *form, '--key', str(file), *words], data), status, lines.encode(), b'')
 
 
 @named('key, words, told', RUNS.no_keys())
@@ -353,7 +353,10 @@ def test_key_options(t, tmp_path):
           "bad input: key: the file can't be read")
     fault(t.run(['show', '--etype', '17'], messages), 2,
           'bad input: key: --etype is given without --key')
-    for words in (['vectors', '--key', str(key)], ['show', '--key'],
+    fault(t.run(['show', '--any', '--etype', '17'], messages), 2,
+          'bad input: key: --etype is given without --key')
+    for words in (['vectors', '--key', str(key)], ['show', '--key'], ['vectors', '--any'],
+                  ['show', '--any=true'], ['show', '--any', '--any'],
                   ['show', '--key', str(key), '--etype'], ['show', '--etype', '17', 'more']):
         check(t.run(words, messages), 2, b'', lambda e: e.startswith(b'error: '))
 

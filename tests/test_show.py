@@ -1,5 +1,5 @@
-"""`krbrelay show` and `python3 -m krbrelay show` print the same and end alike, over messages that are
-right, changed, cut, over several lines and refused by a key, and over files of a key."""
+"""`krbrelay show` and `python3 -m krbrelay show` print the same and end alike, in both forms, over messages that
+are right, changed, cut, over several lines and refused by a key, over lines of any bytes, and over files of a key."""
 import os
 import re
 import subprocess
@@ -51,12 +51,29 @@ def test_messages(krbrelay, tmp_path, key, spelt):
         assert (status, bool(printed), told == "") == (0 if is_its_own else 2, is_its_own, is_its_own)
 
 
-@pytest.mark.parametrize("text, status", [
-    ("", 0), ("\n", 2), ("7g\n\n7519", 2), (PRIVATE, 0), (f"{PRIVATE}\n{PRIVATE.upper()}", 0),
-    ("\n".join(re.findall(".{1,9}", PRIVATE)), 0), (" : ".join(PRIVATE) + "\r\n\r\n", 0),
-    (f"{PRIVATE[:9]}\n{PRIVATE[9:]}\n{PRIVATE}", 2), ("75-19", 2), ("\u0661", 2), (PRIVATE + "\0", 2)])
-def test_lines(krbrelay, text, status):
+@pytest.mark.parametrize("text, status, status_of_any", [
+    ("", 0, 0), ("\n", 2, 2), ("7g\n\n7519", 2, 2), (PRIVATE, 0, 0), (f"{PRIVATE}\n{PRIVATE.upper()}", 0, 0),
+    (f"{PRIVATE}\n\n\n", 2, 0), (f"{PRIVATE}\r\n", 2, 0), (f"{PRIVATE}\n751\n{PRIVATE}\n", 2, 2),
+    ("\n".join(re.findall(".{1,9}", PRIVATE)), 2, 0), (" : ".join(PRIVATE) + "\r\n\r\n", 2, 0),
+    (f"{PRIVATE[:9]}\n{PRIVATE[9:]}\n{PRIVATE}", 2, 2), ("75-19", 2, 2), ("\u0661", 2, 2), (PRIVATE + "\0", 2, 2)])
+def test_lines(krbrelay, tmp_path, text, status, status_of_any):
     assert compared(krbrelay, text)[0] == status
+    assert compared(krbrelay, text, "--any")[0] == status_of_any
+    file = tmp_path / "key"
+    file.write_bytes(fixtures.KEY_128)
+    lines = text.replace(PRIVATE, next(iter(fuzz_messages.sealed(fixtures.KEY_128))).hex())
+    for form in ((), ("--any",)):
+        compared(krbrelay, lines, *form, "--key", str(file))
+
+
+@pytest.mark.parametrize("form", [(), ("--any",)], ids=str)
+@pytest.mark.parametrize("byte", "\n\r\t :\0g", ids=repr)
+def test_a_byte_at_each_place(krbrelay, form, byte):
+    """Both print what an independent reader says (tests/oracle), of all such lines together and of some alone."""
+    texts = [PRIVATE[:at] + byte + PRIVATE[at:] for at in range(len(PRIVATE) + 1)]
+    for text in ("\n".join(texts), texts[0], texts[5], texts[-1]):
+        wanted = fuzz_messages.shown(text.encode(), bool(form))
+        assert compared(krbrelay, text, *form)[1].splitlines() == wanted
 
 
 def test_no_key(krbrelay, tmp_path):

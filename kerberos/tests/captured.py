@@ -31,15 +31,15 @@ def read(folder, name):
 
 
 def is_shown(etype, folder, new):
-    """The one message is opened under its key and has the new password; on one line, over several, and under
-    the key in bytes. Under a key that differs in one bit it isn't."""
+    """The one message is opened under its key and has the new password; on one line, with --any over several,
+    and under the key in bytes. Under a key that differs in one bit it isn't."""
     key, message = os.path.join(folder, "key"), read(folder, "messages")
     status, line = shown(["--key", key], message)
     found = LINE.fullmatch(line.rstrip("\n"))
     if status != 0 or not found or int(found[1]) != etype or new.encode() not in bytes.fromhex(found[2]):
         return False, line
     several = b"\n".join(re.findall(rb".{1,60}", message))
-    if shown(["--key", key, "--etype", str(etype)], several) != (0, line):
+    if shown(["--any", "--key", key, "--etype", str(etype)], several) != (0, line):
         return False, "over several lines it is another"
     held = bytearray.fromhex(read(folder, "key").decode())
     for bit, wanted in ((0, (0, line)), (1, (2, line.partition(" opened")[0] + " refused 31 BAD_INTEGRITY\n"))):

@@ -5,7 +5,7 @@ _krbrelay() {
         1-*) words='show vectors seal open relay -h --help -V --version' ;;
         *-show---key) words= ;;
         *-show---etype) words='17 18' ;;
-        *-show-*) words='--key --etype -h --help' ;;
+        *-show-*) words='--any --key --etype -h --help' ;;
         2-vectors-* | 2-seal-* | 2-open-* | 2-relay-*) words='-h --help' ;;
         *) words= ;;
     esac

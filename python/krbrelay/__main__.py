@@ -61,7 +61,11 @@ def parser() -> argparse.ArgumentParser:
     commands = made.add_subparsers(metavar="COMMAND", required=True)
     show = commands.add_parser("show", help="prints messages", description=ABOUT)
     show.add_argument("message", metavar="MESSAGE", nargs="?", default="-",
-                      help="a message in hexadecimal digits; by default, and for -, standard input")
+                      help="a message in hexadecimal digits; by default, and for -, standard input, "
+                           "with a message on each line")
+    show.add_argument("--any", action="store_true",
+                      help="reads digits with separators between them, and one message over several "
+                           "lines")
     show.add_argument("--key", metavar="FILE",
                       help="a file with the key, 16 bytes or 32, in hexadecimal digits or as they "
                            "are; - for standard input")
@@ -79,7 +83,7 @@ def main(words: Optional[List[str]] = None) -> int:
         return 2
     status = 0
     text = read("-") if given.message == "-" else given.message.encode()
-    for line in lines_of(text, key):
+    for line in lines_of(text, key, given.any):
         print(line.text)
         status = status if line.is_accepted else 2
     return status

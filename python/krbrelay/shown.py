@@ -10,7 +10,7 @@ from krbrelay.message import message_header
 from krbrelay.opener import Opener
 from krbrelay.values import Address, Body
 
-# What may stand between digits.
+# What may stand between the digits of a key's file, and with --any between those of messages.
 SEPARATORS = b" \t\n\r:"
 
 # How many bytes the keys of each encryption type have.
@@ -31,18 +31,22 @@ class Line(NamedTuple):
 
 # ---- input
 
-def bytes_in(text: bytes) -> Optional[bytes]:
-    """The bytes that the digits of a text spell, or None where they aren't digits, or are an odd
-    number of them."""
+def digits_of(text: bytes) -> bytes:
+    """What is left of a text without separators."""
+    return text.translate(None, SEPARATORS)
+
+
+def bytes_in(digits: bytes) -> Optional[bytes]:
+    """The bytes that digits spell, or None where they aren't digits, or are an odd number of them."""
     try:
-        return binascii.unhexlify(text.translate(None, SEPARATORS))
+        return binascii.unhexlify(digits)
     except binascii.Error:
         return None
 
 
 def key_in(file: bytes) -> Optional[Key]:
     """The key of a file: what its digits spell, or else its bytes themselves."""
-    for found in (bytes_in(file), file):
+    for found in (bytes_in(digits_of(file)), file):
         for etype, size in KEY_SIZES.items():
             if found is not None and len(found) == size:
                 return Key(etype, found)
@@ -127,7 +131,7 @@ def refused_text(refusal: Refusal) -> str:
 
 
 def frame_line(frame: bytes, key: Optional[Key]) -> Line:
-    """The line of the bytes of a text's digits."""
+    """The line of the bytes of digits."""
     try:
         mode = message_header(frame).kind
     except Refusal as refusal:
@@ -142,14 +146,14 @@ def frame_line(frame: bytes, key: Optional[Key]) -> Line:
         return Line(f"{text} {refused_text(refusal)}", False)
 
 
-def line_of(text: bytes, key: Optional[Key]) -> Line:
-    """The line of a text of digits."""
-    frame = bytes_in(text)
+def line_of(digits: bytes, key: Optional[Key]) -> Line:
+    """The line of what has to be digits."""
+    frame = bytes_in(digits)
     return Line("not hexadecimal", False) if frame is None else frame_line(frame, key)
 
 
-def is_message(text: bytes) -> bool:
-    frame = bytes_in(text)
+def is_message(digits: bytes) -> bool:
+    frame = bytes_in(digits)
     try:
         return frame is not None and message_header(frame) is not None
     except Refusal:
@@ -157,13 +161,20 @@ def is_message(text: bytes) -> bool:
 
 
 def texts_of(given: bytes) -> List[bytes]:
-    """The texts that are shown: all lines together if they are one message, else each line."""
-    if is_message(given):
-        return [given]
+    """The lines of an input: it is cut at each line feed, and a last line without one counts where it
+    isn't empty."""
     lines = given.split(b"\n")
     return lines if lines[-1] else lines[:-1]
 
 
-def lines_of(given: bytes, key: Optional[Key]) -> Iterator[Line]:
+def loose_texts_of(given: bytes) -> List[bytes]:
+    """The same of loose input, without separators: only all lines together, if they are one
+    message."""
+    whole = digits_of(given)
+    return [whole] if is_message(whole) else [digits_of(line) for line in texts_of(given)]
+
+
+def lines_of(given: bytes, key: Optional[Key], is_loose: bool = False) -> Iterator[Line]:
     """The lines that are printed for an input."""
-    return (line_of(text, key) for text in texts_of(given))
+    texts = loose_texts_of(given) if is_loose else texts_of(given)
+    return (line_of(digits, key) for digits in texts)

@@ -64,6 +64,16 @@ class Show(unittest.TestCase):
         self.assertEqual((status, told), (2, ""))
         self.assertTrue(line.endswith(" refused 31 BAD_INTEGRITY\n"), line)
 
+    def test_loose_input(self):
+        frame = frame_of(*KINDS[1], b"Dhi")
+        whole, cut = shown(frame.hex()), f"{frame[:8].hex()}\n{frame[8:].hex()}\n"
+        self.assertEqual(whole[0], 0)
+        self.assertEqual(shown(given=cut), (2, "refused 901 MALFORMED\n" * 2, ""))
+        self.assertEqual(shown("--any", given=cut), whole)
+        for text in (frame.hex() + "\r\n", frame.hex(" "), frame.hex(":")):
+            self.assertEqual(shown(given=text), (2, "not hexadecimal\n", ""))
+            self.assertEqual(shown("--any", given=text), whole)
+
     def test_what_is_no_message_or_no_key(self):
         """A line says what is wrong, and not where the program met it."""
         frame, key = frame_of(*KINDS[1], b"Dhi").hex(), KEYS[0].hex()

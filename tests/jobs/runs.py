@@ -40,6 +40,16 @@ def inside(tag, content):
     return bytes([tag, len(content)]) + content
 
 
+def forms(row, lines):
+    """Both forms of a run of `show`: the words that ask for the form, the status and the lines."""
+    status = row.get("status", 0)
+    yield [], status, row[lines]
+    if f"any_{lines}" in row:
+        yield ["--any"], row.get("any_status", 0), row[f"any_{lines}"]
+    else:
+        yield ["--any"], status, row[lines]
+
+
 class Runs:
     """Whole runs by their lines and their status."""
 
@@ -116,18 +126,21 @@ class Runs:
 
     def shown(self):
         for row in self.table["show"]:
-            text = "".join(f"{line}\n" for line in row["lines"]).encode()
-            self.add(f"show of {row['name']}", ["show"], self.filled(row["input"]).encode(),
-                     row.get("status", 0), text)
+            for form, status, lines in forms(row, "lines"):
+                self.add(" ".join(["show", *form, "of", row["name"]]), ["show", *form],
+                         self.filled(row["input"]).encode(), status,
+                         "".join(f"{line}\n" for line in lines).encode())
 
     def under_keys(self):
-        """Runs of `show` under the key of a file: the name, the bytes of the file, the words after
-        it, the input, the status, and what is printed after the fields of each message."""
+        """Runs of `show` under the key of a file: the name, the bytes of the file, the words that
+        name the form, the other words after it, the input, the status, and what is printed after
+        the fields of each message."""
         for row in self.table["show_key"]:
             key = bytes.fromhex(row["key_bytes"]) if "key_bytes" in row else row["key"].encode()
             words = ["--etype", row["etype"]] if "etype" in row else []
-            yield (row["name"], key, words, self.filled(row["input"]).encode(),
-                   row.get("status", 0), row["after"])
+            for form, status, after in forms(row, "after"):
+                yield (" ".join([row["name"], *form]), key, form, words,
+                       self.filled(row["input"]).encode(), status, after)
 
     def no_keys(self):
         """Files that hold no key: the name, their bytes, the words after them, and what is told."""

@@ -3,6 +3,7 @@
 anew, mostly with right lengths, and whose bytes are then sometimes changed, cut or joined. Under a key
 an independent opener (opener.py) says what is inside."""
 import random
+import string
 
 from oracle import fixtures, frames, opener, reader
 
@@ -50,6 +51,44 @@ def fields_text(found):
         return f"PRIV {version} {kind} etype={etype} kvno={told(key_version)} cipher={cipher.hex()}"
     version, kind, body, checksum = found
     return f"SAFE {version} {kind} {body_text(body)} cksum={typed(checksum)}"
+
+
+# ---- what the lines of an input are to be, in both forms
+
+LINE_FEED = 0x0A
+SEPARATORS = bytes([0x20, 0x09, LINE_FEED, 0x0D, 0x3A])
+DIGITS = string.hexdigits.encode()
+
+
+def line_of_digits(digits, key=None):
+    if len(digits) % 2 or any(it not in DIGITS for it in digits):
+        return "not hexadecimal"
+    return line_of(bytes.fromhex(digits.decode("ascii")), key)
+
+
+def lines_in(given):
+    """The lines of an input: a last one without a line feed counts where it isn't empty."""
+    *lines, last = given.split(bytes([LINE_FEED]))
+    return lines + [last] * (last != b"")
+
+
+def without_separators(text):
+    return bytes(it for it in text if it not in SEPARATORS)
+
+
+def shown(given, is_any, key=None):
+    """The lines of `show` for an input, and with is_any those of `show --any`."""
+    if not is_any:
+        return [line_of_digits(it, key) for it in lines_in(given)]
+    whole = line_of_digits(without_separators(given), key)
+    if whole.startswith(("SAFE ", "PRIV ")):
+        return [whole]
+    return [line_of_digits(without_separators(it), key) for it in lines_in(given)]
+
+
+def status_of(lines):
+    """The exit status of a run that prints these lines."""
+    return 0 if all(it.startswith(("SAFE ", "PRIV ")) and " refused " not in it for it in lines) else 2
 
 
 # ---- messages as trees: [tag, bytes or list of trees, how its length is spelt]
@@ -251,3 +290,34 @@ def drawn_under(key, seed, index, worked):
     """The bytes of input number `index` under the key."""
     dice = random.Random(f"{seed} {index} {key.hex()}")
     return sealed_body(dice, key, worked) if dice.random() < 0.5 else changed(dice, worked)
+
+
+# ---- inputs of digits and other bytes
+
+def with_each_byte(text):
+    """The text with each separator put in at each place."""
+    for it in SEPARATORS:
+        for place in range(len(text) + 1):
+            yield text[:place] + bytes([it]) + text[place:]
+
+
+def change_text(dice, text):
+    """Takes a byte away, or puts one in, mostly a separator."""
+    place = dice.randrange(len(text) + 1)
+    if dice.random() < 0.2:
+        return text[:place] + text[place + 1:]
+    byte = dice.choice(SEPARATORS) if dice.random() < 0.8 else dice.randrange(256)
+    return text[:place] + bytes([byte]) + text[place:]
+
+
+def drawn_text(seed, index, messages):
+    """Input number `index`: some messages in digits of either case, mostly each on a line of its own,
+    and up to eight bytes put in or taken away."""
+    dice, text = random.Random(f"{seed} text {index}"), b""
+    for _ in range(dice.choice([0, 1, 1, 1, 2, 3])):
+        digits = dice.choice(messages).hex()
+        text += (digits.upper() if dice.random() < 0.3 else digits).encode()
+        text += dice.choice([b"\n", b"\n", b"\n\n", b"\r\n", b""])
+    for _ in range(dice.choice([0, 1, 1, 2, 4, 8])):
+        text = change_text(dice, text)
+    return text

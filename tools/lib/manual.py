@@ -47,10 +47,13 @@ def options(text):
     return {name: about for short, long, about in found for name in (short, long) if name}
 
 
-def options_with_values(text):
-    """The lines of the options that a command has of its own."""
+def own_options(text):
+    """The lines of the options that a command has of its own: those without a short name."""
     listed = re.search(r"^Options:\n((?:  .*\n)+)", text, re.M)[1]
-    return [line.replace("<", "").replace(">", "").strip() for line in listed.splitlines() if " <" in line]
+    found = re.findall(r"^ {6}(--\w+)(?: <(\w+)>)? +(.*)$", listed, re.M)
+    words = [(f"{name} {value}".strip(), about) for name, value, about in found]
+    width = max((len(it) for it, _ in words), default=0)
+    return [f"{it:<{width}}  {about}" for it, about in words]
 
 
 def usage(text):
@@ -82,7 +85,7 @@ def page(program, date):
     parts = [HEAD.format(date=date, version=version(), about=about[0].lower() + about[1:],
                          synopsis=synopsis.replace("-", "\\-"))]
     for name, text in helps.items():
-        own = "".join(f"  {line}\n" for line in options_with_values(text))
+        own = "".join(f"  {line}\n" for line in own_options(text))
         described = f"{own}\n{after_options(text)}" if own else after_options(text)
         parts.append(f".SS {name}\n{commands(whole)[name]}.\n{verbatim(described)}")
     status = re.search(r"^Exit status:\n((?:  .*\n?)+)", whole, re.M)[1]

@@ -17,6 +17,12 @@ def run(command, text, program=None, limit=60, words=(), **how):
                           text=True, check=False, timeout=limit, **how)
 
 
+def run_over_bytes(command, given, program=None, limit=60, words=()):
+    """The same over bytes; what it writes are bytes too."""
+    return subprocess.run([program or USED[0], command, *words], input=given, stdout=subprocess.PIPE,
+                          stderr=subprocess.PIPE, check=False, timeout=limit)
+
+
 def lines(command, text, program=None, limit=60):
     return run(command, text, program, limit).stdout.splitlines()
 

@@ -1,5 +1,5 @@
 -- Opening without demands has an outcome, since opening with demands has one.
-use Rattle.std.proofs.Common.{◌≡◌, ℕ, true, false, List, [], ◌∷◌, drop, Result, Ok, Err, refl, inl, inr}
+use Rattle.std.proofs.Common.{ℕ, true, false, List, [], ◌∷◌, drop, Result, Ok, Err, refl, inl, inr}
 use Rattle.krb_base.specs.Bytes.{AreBytes}
 use Rattle.krb_der.specs.declared.message.Message.{Message}
 use Rattle.krb_der.specs.declared.message.Message.TheVariants as messages

@@ -1,20 +1,19 @@
--- What a text of the input reads as: a line of it, or the input as a whole.
+-- What a text reads as by its digits.
 use Rattle.std.specs.Prelude.{◌≡◌, ℕ, ◌<◌, ◌≤◌, List, length, Bool, true, false, not, Ok, IsErr, Option}
 use Rattle.hex.specs.Hex.{decode_of}
 use Rattle.krb_base.specs.Limits.{frame_limit}
 use Rattle.krb_der.specs.Message.{Spells}
 use Rattle.krb_der.specs.declared.message.Message.{Message}
 use Rattle.krb_etype.specs.TypedKey.{TypedKey}
-use Rattle.krb_commands.specs.Digits.{digits_of}
 use Rattle.krb_commands.specs.Key.{IsInside}
 use Rattle.krb_commands.specs.declared.inside.Inside.{Inside}
 use Rattle.krb_commands.specs.declared.inside.Inside.TheVariants.{Unasked, Opened, Refused}
 use Rattle.krb_commands.specs.declared.reading.Reading.{Reading}
 use Rattle.krb_commands.specs.declared.reading.Reading.TheVariants as read
 
--- the text's digits are an even number, in either case, and these are their bytes
+-- the digits are an even number, in either case, and these are their bytes
 abbrev pub HasBytes : List ℕ → List ℕ → Type 0
-HasBytes text bytes = decode_of (digits_of text) ≡ Ok bytes
+HasBytes digits bytes = decode_of digits ≡ Ok bytes
 
 -- the bytes are no more than a message may have, and spell none
 pub record SpellsNothing (bytes : List ℕ) : Type 0 where
@@ -23,16 +22,18 @@ pub record SpellsNothing (bytes : List ℕ) : Type 0 where
 
 -- by the key, where there is one
 abbrev pub Reads : Option TypedKey → List ℕ → Reading → Type 0
-Reads key text (read.Message message inside) =
-    (bytes : List ℕ) × HasBytes text bytes × Spells message bytes × IsInside key message bytes inside
-Reads key text read.Malformed = (bytes : List ℕ) × HasBytes text bytes × SpellsNothing bytes
-Reads key text read.TooLong = (bytes : List ℕ) × HasBytes text bytes × (frame_limit < length bytes)
-Reads key text read.NotHexadecimal = IsErr (decode_of (digits_of text))
+Reads key digits (read.Message message inside) =
+    (bytes : List ℕ) × HasBytes digits bytes × Spells message bytes
+    × IsInside key message bytes inside
+Reads key digits read.Malformed = (bytes : List ℕ) × HasBytes digits bytes × SpellsNothing bytes
+Reads key digits read.TooLong =
+    (bytes : List ℕ) × HasBytes digits bytes × (frame_limit < length bytes)
+Reads key digits read.NotHexadecimal = IsErr (decode_of digits)
 
--- the digits of the text spell a message
+-- the digits spell a message
 abbrev pub SpellsMessage : List ℕ → Type 0
-SpellsMessage text =
-    (message : Message) × (bytes : List ℕ) × HasBytes text bytes × Spells message bytes
+SpellsMessage digits =
+    (message : Message) × (bytes : List ℕ) × HasBytes digits bytes × Spells message bytes
 
 abbrev pub is_message : Reading → Bool
 is_message (read.Message message inside) = true

@@ -10,7 +10,7 @@ use Rattle.std.specs.List.{list_any}
 use Rattle.clap.specs.Kinds.{or_else, check_kinds}
 use Rattle.clap.specs.declared.parser.matches.ArgMatches.{ArgMatches}
 use Rattle.krb_program.specs.declared.command.Asked.{Asked}
-use Rattle.krb_program.specs.Command.{IsEntered, IsWord, IsNamed, krbrelay_app, word_of}
+use Rattle.krb_program.specs.Command.{IsEntered, IsWord, IsNamed, form_of, krbrelay_app, text_behind, word_of}
 use Rattle.clap.proofs.WalkLemmas.{first_value-rows}
 use Rattle.krb_program.specs.declared.command.Cmd.{Cmd}
 use Rattle.clap.specs.declared.parser.matches.ArgMatches.TheViews.{out-ArgMatches, out-SubCommand}
@@ -114,13 +114,15 @@ rows_entered m name rows named are = rows_are (subcommand_rows_of m) name rows (
 pub entered_from : (m : ArgMatches) (found : Option (Bor Text × Bor ArgMatches)) (p : Bor Text × Bor ArgMatches) (asked : Asked)
     → option_map (λ q. q.0.now) found ≡ subcommand_name_of m → option_map (λ q. rows_of (found_of q.1.now)) found ≡ option_map (λ q. q.1) (subcommand_rows_of m)
     → found ≡ Some p → p.0.now ≡ word_of asked.command
-    → option_map (λ s. s.now) asked.key ≡ first_value (found_of p.1.now) (codes "key") → option_map (λ s. s.now) asked.etype ≡ first_value (found_of p.1.now) (codes "etype")
+    → (any : Option (Bor Text)) → asked.form ≡ form_of (text_behind any) → text_behind any ≡ first_value (found_of p.1.now) (codes "any")
+    → text_behind asked.key ≡ first_value (found_of p.1.now) (codes "key") → text_behind asked.etype ≡ first_value (found_of p.1.now) (codes "etype")
     → IsEntered (subcommand_rows_of m) asked
-entered_from m found p asked named rows is word key etype =
+entered_from m found p asked named rows is word any form given key etype =
     let options = rows_of (found_of p.1.now) in record {
       options = options;
       command = rows_entered m p.0.now options (ap (option_map (λ q. q.0.now)) (sym is) ∙ named) (ap (option_map (λ q. rows_of (found_of q.1.now))) (sym is) ∙ rows)
           ∙ ap (λ w. Some (w, options)) word;
+      form = form ∙ ap form_of (given ∙ first_value-rows (found_of p.1.now) (codes "any"));
       key = key ∙ first_value-rows (found_of p.1.now) (codes "key");
       etype = etype ∙ first_value-rows (found_of p.1.now) (codes "etype");
     }

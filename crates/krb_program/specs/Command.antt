@@ -1,9 +1,15 @@
 -- The command line, in the words of `clap`.
-use Rattle.std.specs.Prelude.{◌≡◌, ℕ, List, [], ◌∷◌, Option, Some, codes, true, option_map}
+use Rattle.std.specs.Prelude.{◌≡◌, ℕ, List, [], ◌∷◌, Option, Some, None, codes, true, option_map}
+use Rattle.std.specs.Prelude.{if◌then◌else◌}
+use Rattle.std.specs.Borrow.{Bor}
+use Rattle.std.specs.Str.{bytes_eq}
 use Rattle.clap.specs.Words.{App, Row, Rule, Shape, Text, first_of, new_app, new_rule}
 use Rattle.clap.specs.Words.{with_subcommand, subcommand_name_of}
 use Rattle.clap.specs.Simple.{new_shape, on_top}
+use Rattle.clap.specs.declared.builder.action.ArgAction.TheVariants.{SetTrue}
 use Rattle.clap.specs.declared.parser.matches.ArgMatches.{ArgMatches}
+use Rattle.krb_commands.specs.declared.form.Form.{Form}
+use Rattle.krb_commands.specs.declared.form.Form.TheVariants.{Lines, Any}
 use Rattle.krb_program.specs.declared.command.Asked.{Asked}
 use Rattle.krb_program.specs.declared.command.Cmd.{Cmd}
 use Rattle.krb_program.specs.declared.command.Cmd.TheVariants.{Show, Vectors, Seal, Open, Relay}
@@ -30,10 +36,14 @@ no_commands =
 abbrev pub option_rule : Text → Rule
 option_rule name = record (new_rule name) { long = Some name; value_names = 1 }
 
+-- an option `--name`
+abbrev pub flag_rule : Text → Rule
+flag_rule name = record (new_rule name) { long = Some name; action = Some SetTrue }
+
 -- a command of the command line: only `show` has options
 abbrev pub shape_for : Cmd → Shape
 shape_for Show = record (new_shape (codes "show")) {
-  rules = option_rule (codes "key") ∷ option_rule (codes "etype") ∷ [];
+  rules = flag_rule (codes "any") ∷ option_rule (codes "key") ∷ option_rule (codes "etype") ∷ [];
 }
 shape_for Vectors = new_shape (word_of Vectors)
 shape_for Seal = new_shape (word_of Seal)
@@ -57,9 +67,18 @@ IsWord word = (command : Cmd) × (word ≡ word_of command)
 abbrev pub IsNamed : ArgMatches → Type 0
 IsNamed m = (command : Cmd) × (subcommand_name_of m ≡ Some (word_of command))
 
+-- the form of `show`'s input, by the value of the option `--any`
+abbrev pub form_of : Option Text → Form
+form_of None = Lines
+form_of (Some text) = if bytes_eq text (codes "true") then Any else Lines
+
+abbrev pub text_behind : Option (Bor Text) → Option Text
+text_behind text = option_map (λ t. t.now) text
+
 -- what was entered is this command, with these values of its options
 pub record IsEntered (found : Option (Text × List Row)) (asked : Asked) : Type 0 where
   pub options : List Row
   pub command : found ≡ Some (word_of asked.command, options)
-  pub key : option_map (λ s. s.now) asked.key ≡ first_of (codes "key") options
-  pub etype : option_map (λ s. s.now) asked.etype ≡ first_of (codes "etype") options
+  pub form : asked.form ≡ form_of (first_of (codes "any") options)
+  pub key : text_behind asked.key ≡ first_of (codes "key") options
+  pub etype : text_behind asked.etype ≡ first_of (codes "etype") options

@@ -1,7 +1,6 @@
 -- What each command does, by the bytes that its reader has left, and the exit statuses.
 use Rattle.std.specs.Prelude.{◌≡◌, ◌⊎◌, ◌<◌, List, ℕ, codes, length, Option, Some, None, IfSome}
 use Rattle.std.specs.Prelude.{Result, Ok, Err, if◌then◌else◌, ok_or, option_map, ⊤}
-use Rattle.std.specs.Borrow.{Bor}
 use Rattle.std.specs.Str.{bytes_eq}
 use Rattle.std.specs.Io.KnownBytes.{Appends, Keeps}
 use Rattle.krb_job.specs.declared.job.Command.TheVariants as job
@@ -10,6 +9,7 @@ use Rattle.krb_commands.specs.declared.fault.Fault.{Fault}
 use Rattle.krb_commands.specs.declared.fault.Fault.TheVariants as fault
 use Rattle.krb_commands.specs.declared.fault.KeyFault.{KeyFault}
 use Rattle.krb_commands.specs.declared.fault.KeyFault.TheVariants.{Missing, NoKey, NoType, OtherType, Unreadable}
+use Rattle.krb_commands.specs.declared.form.Form.{Form}
 use Rattle.krb_commands.specs.Fault.{fault_status}
 use Rattle.krb_commands.specs.Input.{input_limit}
 use Rattle.krb_commands.specs.Output.{AppendsPrefix}
@@ -20,6 +20,7 @@ use Rattle.krb_etype.specs.declared.etype.Etype.{Etype}
 use Rattle.krb_etype.specs.declared.etype.Etype.TheVariants.{Aes128, Aes256}
 use Rattle.krb_etype.specs.TypedKey.{TypedKey}
 use Rattle.clap.specs.Words.{Text}
+use Rattle.krb_program.specs.Command.{text_behind}
 use Rattle.krb_program.specs.declared.command.Asked.{Asked}
 use Rattle.krb_program.specs.declared.command.Cmd.{Cmd}
 use Rattle.krb_program.specs.declared.command.Cmd.TheVariants.{Show, Vectors, Seal, Open, Relay}
@@ -30,25 +31,25 @@ use Rattle.krb_program.specs.RelayedJob.{RelaysParsed, RelaysParsedPrefix, Stops
 use Rattle.krb_program.specs.RelayedJob.{IsBadToRelay}
 
 -- all that the command is to write is written, and this is the status
-abbrev pub Does : Cmd → Option (List ℕ) → Option (List ℕ) → Option (List ℕ) → ℕ → Type 0
-Does Show input old new status = IfSome input (λ bytes. Shows None bytes old new status)
-Does Vectors input old new status = Appends old new vectors_text × (status ≡ 0)
-Does Seal input old new status =
+abbrev pub Does : Cmd → Form → Option (List ℕ) → Option (List ℕ) → Option (List ℕ) → ℕ → Type 0
+Does Show form input old new status = IfSome input (λ bytes. Shows form None bytes old new status)
+Does Vectors form input old new status = Appends old new vectors_text × (status ≡ 0)
+Does Seal form input old new status =
     (parsed : Parsed) → IsParsed job.Seal input parsed → SealsParsed parsed old new × (status ≡ 0)
-Does Open input old new status =
+Does Open form input old new status =
     (parsed : Parsed) → IsParsed job.Open input parsed → OpensParsed parsed old new status
-Does Relay input old new status =
+Does Relay form input old new status =
     (parsed : Parsed) → IsParsed job.Relay input parsed → RelaysParsed parsed old new status
 
 -- a prefix of it
-abbrev pub DoesPrefix : Cmd → Option (List ℕ) → Option (List ℕ) → Option (List ℕ) → Type 0
-DoesPrefix Show input old new = IfSome input (λ bytes. ShowsPrefix None bytes old new)
-DoesPrefix Vectors input old new = AppendsPrefix old new vectors_text
-DoesPrefix Seal input old new =
+abbrev pub DoesPrefix : Cmd → Form → Option (List ℕ) → Option (List ℕ) → Option (List ℕ) → Type 0
+DoesPrefix Show form input old new = IfSome input (λ bytes. ShowsPrefix form None bytes old new)
+DoesPrefix Vectors form input old new = AppendsPrefix old new vectors_text
+DoesPrefix Seal form input old new =
     (parsed : Parsed) → IsParsed job.Seal input parsed → SealsParsedPrefix parsed old new
-DoesPrefix Open input old new =
+DoesPrefix Open form input old new =
     (parsed : Parsed) → IsParsed job.Open input parsed → OpensParsedPrefix parsed old new
-DoesPrefix Relay input old new =
+DoesPrefix Relay form input old new =
     (parsed : Parsed) → IsParsed job.Relay input parsed → RelaysParsedPrefix parsed old new
 
 -- the run stopped while frames were taken, and so many lines are written: their outcome until then
@@ -71,19 +72,19 @@ IsBadInput Relay input bad = (parsed : Parsed) → IsParsed job.Relay input pars
 
 -- What a run of the command does: all, or after a fault a prefix of it, and nothing where the input
 -- can't be read or is bad.
-abbrev pub HasRun : Cmd → Option (List ℕ) → Option (List ℕ) → Option (List ℕ) → Result ℕ Fault
-    → Type 0
-HasRun command input old new (Ok status) = Does command input old new status
-HasRun command input old new (Err fault.TooLong) =
+abbrev pub HasRun : Cmd → Form → Option (List ℕ) → Option (List ℕ) → Option (List ℕ)
+    → Result ℕ Fault → Type 0
+HasRun command form input old new (Ok status) = Does command form input old new status
+HasRun command form input old new (Err fault.TooLong) =
     IfSome input (λ bytes. input_limit < length bytes) × Keeps old new
-HasRun command input old new (Err (fault.BadInput bad)) =
+HasRun command form input old new (Err (fault.BadInput bad)) =
     IsBadInput command input bad × Keeps old new
-HasRun command input old new (Err (fault.Key key)) = ⊥
-HasRun command input old new (Err fault.Memory) = DoesPrefix command input old new
-HasRun command input old new (Err (fault.Stopped lines)) = DoesFirst command lines input old new
-HasRun command input old new (Err (fault.Thread lines)) = DoesFirst command lines input old new
-HasRun command input old new (Err fault.Read) = Keeps old new
-HasRun command input old new (Err fault.Write) = DoesPrefix command input old new
+HasRun command form input old new (Err (fault.Key key)) = ⊥
+HasRun command form input old new (Err fault.Memory) = DoesPrefix command form input old new
+HasRun command form input old new (Err (fault.Stopped lines)) = DoesFirst command lines input old new
+HasRun command form input old new (Err (fault.Thread lines)) = DoesFirst command lines input old new
+HasRun command form input old new (Err fault.Read) = Keeps old new
+HasRun command form input old new (Err fault.Write) = DoesPrefix command form input old new
 
 -- this is the key of a file, and of the type that is stated
 abbrev pub IsKeyOf : Option Etype → Option (List ℕ) → TypedKey → Type 0
@@ -99,29 +100,29 @@ HasNoKey stated file Missing = ⊤
 HasNoKey stated file NoType = ⊤
 
 -- a prefix of what is shown under the key of a file, or nothing
-abbrev pub ShowsPrefixUnder : Option Etype → Option (List ℕ) → Option (List ℕ) → Option (List ℕ)
-    → Option (List ℕ) → Type 0
-ShowsPrefixUnder stated file input old new =
+abbrev pub ShowsPrefixUnder : Form → Option Etype → Option (List ℕ) → Option (List ℕ)
+    → Option (List ℕ) → Option (List ℕ) → Type 0
+ShowsPrefixUnder form stated file input old new =
     Keeps old new
     ⊎ ((key : TypedKey) × IsKeyOf stated file key
-    × IfSome input (λ bytes. ShowsPrefix (Some key) bytes old new))
+    × IfSome input (λ bytes. ShowsPrefix form (Some key) bytes old new))
 
 -- What a run of `show` under the key of a file does, by the bytes that the file and the reader have
 -- left: all, or after a fault a prefix of it, and nothing where there is no key.
-abbrev pub HasShown : Option Etype → Option (List ℕ) → Option (List ℕ) → Option (List ℕ)
+abbrev pub HasShown : Form → Option Etype → Option (List ℕ) → Option (List ℕ) → Option (List ℕ)
     → Option (List ℕ) → Result ℕ Fault → Type 0
-HasShown stated file input old new (Ok status) =
+HasShown form stated file input old new (Ok status) =
     (key : TypedKey) × IsKeyOf stated file key
-    × IfSome input (λ bytes. Shows (Some key) bytes old new status)
-HasShown stated file input old new (Err fault.TooLong) =
+    × IfSome input (λ bytes. Shows form (Some key) bytes old new status)
+HasShown form stated file input old new (Err fault.TooLong) =
     IfSome input (λ bytes. input_limit < length bytes) × Keeps old new
-HasShown stated file input old new (Err (fault.BadInput bad)) = ⊥
-HasShown stated file input old new (Err (fault.Key key)) = HasNoKey stated file key × Keeps old new
-HasShown stated file input old new (Err fault.Memory) = ShowsPrefixUnder stated file input old new
-HasShown stated file input old new (Err (fault.Stopped lines)) = ⊥
-HasShown stated file input old new (Err (fault.Thread lines)) = ⊥
-HasShown stated file input old new (Err fault.Read) = Keeps old new
-HasShown stated file input old new (Err fault.Write) = ShowsPrefixUnder stated file input old new
+HasShown form stated file input old new (Err (fault.BadInput bad)) = ⊥
+HasShown form stated file input old new (Err (fault.Key key)) = HasNoKey stated file key × Keeps old new
+HasShown form stated file input old new (Err fault.Memory) = ShowsPrefixUnder form stated file input old new
+HasShown form stated file input old new (Err (fault.Stopped lines)) = ⊥
+HasShown form stated file input old new (Err (fault.Thread lines)) = ⊥
+HasShown form stated file input old new (Err fault.Read) = Keeps old new
+HasShown form stated file input old new (Err fault.Write) = ShowsPrefixUnder form stated file input old new
 
 -- the type that a text names by its number
 abbrev pub etype_named : Text → Option Etype
@@ -140,33 +141,31 @@ IsRefused key old new outcome =
     ((outcome ≡ Err (fault.Key key)) ⊎ (outcome ≡ Err fault.Write)) × Keeps old new
 
 -- `show` was run under the key of a file, of the type that is stated
-abbrev pub HasShownFile : Result (Option Etype) KeyFault → Option (List ℕ) → Option (List ℕ)
+abbrev pub HasShownFile : Form → Result (Option Etype) KeyFault → Option (List ℕ) → Option (List ℕ)
     → Option (List ℕ) → Result ℕ Fault → Type 0
-HasShownFile (Ok stated) input old new outcome =
-    (file : Option (List ℕ)) × HasShown stated file input old new outcome
-HasShownFile (Err key) input old new outcome = IsRefused key old new outcome
+HasShownFile form (Ok stated) input old new outcome =
+    (file : Option (List ℕ)) × HasShown form stated file input old new outcome
+HasShownFile form (Err key) input old new outcome = IsRefused key old new outcome
 
--- A command was run, by the values of its options: `show` under the key of a file where one is
+-- A command was run, by its options: `show` in a form, and under the key of a file where one is
 -- named.
-abbrev pub HasServed : Cmd → Option Text → Option Text → Option (List ℕ) → Option (List ℕ)
+abbrev pub HasServed : Cmd → Form → Option Text → Option Text → Option (List ℕ) → Option (List ℕ)
     → Option (List ℕ) → Result ℕ Fault → Type 0
-HasServed Show None None input old new outcome = HasRun Show input old new outcome
-HasServed Show None (Some etype) input old new outcome = IsRefused Missing old new outcome
-HasServed Show (Some path) etype input old new outcome =
-    HasShownFile (stated_of etype) input old new outcome
-HasServed Vectors key etype input old new outcome = HasRun Vectors input old new outcome
-HasServed Seal key etype input old new outcome = HasRun Seal input old new outcome
-HasServed Open key etype input old new outcome = HasRun Open input old new outcome
-HasServed Relay key etype input old new outcome = HasRun Relay input old new outcome
-
-abbrev pub text_behind : Option (Bor Text) → Option Text
-text_behind text = option_map (λ t. t.now) text
+HasServed Show form None None input old new outcome = HasRun Show form input old new outcome
+HasServed Show form None (Some etype) input old new outcome = IsRefused Missing old new outcome
+HasServed Show form (Some path) etype input old new outcome =
+    HasShownFile form (stated_of etype) input old new outcome
+HasServed Vectors form key etype input old new outcome = HasRun Vectors form input old new outcome
+HasServed Seal form key etype input old new outcome = HasRun Seal form input old new outcome
+HasServed Open form key etype input old new outcome = HasRun Open form input old new outcome
+HasServed Relay form key etype input old new outcome = HasRun Relay form input old new outcome
 
 -- what is done that a command line asks
 abbrev pub HasObeyed : Asked → Option (List ℕ) → Option (List ℕ) → Option (List ℕ) → Result ℕ Fault
     → Type 0
 HasObeyed asked input old new outcome =
-    HasServed asked.command (text_behind asked.key) (text_behind asked.etype) input old new outcome
+    HasServed asked.command asked.form (text_behind asked.key) (text_behind asked.etype) input
+    old new outcome
 
 -- the exit status of a run
 abbrev pub status_of : Result ℕ Fault → ℕ

@@ -3,11 +3,12 @@ ghost use Rattle.std.specs.Prelude.{◌≡◌, IfOk, false, map};
 ghost use Rattle.clap.specs.Words.{app_of, subcommand_of, rule_of, subcommand_rows_of, with_subcommand, FailsBy, fault_of, new_app};
 ghost use Rattle.clap.specs.declared.builder.command.Command.TheViews.{out-Command as fields_of};
 ghost use Rattle.krb_program.specs.Command as line;
-ghost use Rattle.krb_program.specs.Command.{IsEntered, IsNamed, IsWord, krbrelay_app, shape_for, with_word, word_of};
+ghost use Rattle.krb_program.specs.Command.{IsEntered, IsNamed, IsWord, krbrelay_app, shape_for, text_behind, with_word, word_of};
 
 use crate::help;
 use crate::help::Help;
-use clap::{Arg, ArgMatches, Command, Error};
+use clap::{Arg, ArgAction, ArgMatches, Command, Error};
+use krb_commands::Form;
 use std::alloc::{AllocError, Global};
 use std::convert::AsStr;
 
@@ -47,6 +48,8 @@ impl Cmd {
 pub struct Asked<'a> {
     /// The command.
     pub command: Cmd,
+    /// How `show` reads its input.
+    pub form: Form,
     /// The file of the key under which messages are shown.
     pub key: Option<&'a str>,
     /// The number of the encryption type that this key is of.
@@ -74,8 +77,19 @@ fn entered<'a>(matches: &ArgMatches<'a>) -> Asked<'a>
     let (word, options) = matches.subcommand().unwrap();
     Asked {
         command: Cmd::of_word(word),
+        form: form_of(options.get_str("any")),
         key: options.get_str("key"),
         etype: options.get_str("etype"),
+    }
+}
+
+/// The form that the value of the option `--any` stands for.
+fn form_of(any: Option<&str>) -> Form
+    ensures { result ≡ line.form_of (text_behind any.entry) }
+{
+    match any {
+        Some("true") => Form::Any,
+        _ => Form::Lines,
     }
 }
 
@@ -125,14 +139,18 @@ fn with_command<'a>(
     line.subcommand(described(alloc, word, help))
 }
 
-/// The command `show`, with the options of a key.
+/// The command `show`, with its options.
 fn show<'a>(alloc: Global) -> Result<Command<'a>, AllocError>
     ensures shape { IfOk result (λ command. (app_of command).top ≡ shape_for Cmd.Show) }
     ensures local { IfOk result (λ command. (fields_of command).has_globals ≡ false) }
 {
+    let any = flag(alloc, "any", help::ANY);
     let key = option(alloc, "key", "FILE", help::KEY);
     let etype = option(alloc, "etype", "N", help::ETYPE);
-    described(alloc, "show", help::SHOW).arg(key)?.arg(etype)
+    described(alloc, "show", help::SHOW)
+        .arg(any)?
+        .arg(key)?
+        .arg(etype)
 }
 
 /// A command without options.
@@ -144,6 +162,17 @@ fn described<'a>(alloc: Global, word: &'static str, help: Help) -> Command<'a>
         .override_usage(help.usage)
         .about(help.about)
         .after_help(help.after)
+}
+
+/// An option without a value.
+fn flag<'a>(alloc: Global, name: &'static str, help: &'static str) -> Arg<'a>
+    ensures rule { rule_of result ≡ line.flag_rule name.entry.now }
+    ensures local { result.global ≡ false }
+{
+    Arg::new(alloc, name)
+        .long(name)
+        .action(ArgAction::SetTrue)
+        .help(help)
 }
 
 /// An option with one value.

@@ -5,16 +5,16 @@ ghost use Rattle.std.specs.Io.Buffered.{writer_buffer, writer_contents};
 ghost use Rattle.clap.specs.Words.{subcommand_of, FailsBy, fault_of};
 ghost use Rattle.krb_job.specs.declared.bad_input.BadInput.{BadInput};
 ghost use Rattle.krb_commands.specs.Input.{input_limit};
-ghost use Rattle.krb_program.specs.Command.{IsEntered, krbrelay_app, word_of};
+ghost use Rattle.krb_program.specs.Command.{IsEntered, krbrelay_app, text_behind, word_of};
 ghost use Rattle.krb_commands.specs.JobInput.{PrintsNothing};
 ghost use Rattle.krb_commands.specs.declared.fault.KeyFault.{KeyFault as KeyFaultValue};
 ghost use Rattle.krb_program.specs.declared.command.Asked.{Asked as AskedValue};
-ghost use Rattle.krb_program.specs.Running.{Does, DoesFirst, DoesPrefix, IsBadInput, HasObeyed, HasRun, HasShown, HasShownFile, IsRefused, stated_of, text_behind};
+ghost use Rattle.krb_program.specs.Running.{Does, DoesFirst, DoesPrefix, IsBadInput, HasObeyed, HasRun, HasShown, HasShownFile, IsRefused, stated_of};
 
 use crate::command::{Asked, Cmd, command_of};
 use crate::relay_command::relay;
 use clap::Error;
-use krb_commands::{Fault, KeyFault, open, read_key, seal, show, vectors};
+use krb_commands::{Fault, Form, KeyFault, open, read_key, seal, show, vectors};
 use krb_relay::Gate;
 use krb_seal::Etype;
 use std::alloc::Global;
@@ -76,12 +76,12 @@ fn serve<T: Threads + Wait + Files + Sync, R: Read, W: Write + Drop, G: Gate + S
     ensures vectors_reads_nothing { asked.entry.command ≡ Cmd.Vectors → reader.new ≡ reader.old }
 {
     if !matches!(asked.command, Cmd::Show) {
-        return run(rt, alloc, asked.command, reader, writer, gate);
+        return run(rt, alloc, asked.command, asked.form, reader, writer, gate);
     }
     match asked.key {
-        Some(path) => show_file(rt, alloc, path, asked.etype, reader, writer),
+        Some(path) => show_file(rt, alloc, asked.form, path, asked.etype, reader, writer),
         None if asked.etype.is_some() => refuse_key(KeyFault::Missing, writer),
-        None => run(rt, alloc, asked.command, reader, writer, gate),
+        None => run(rt, alloc, asked.command, asked.form, reader, writer, gate),
     }
 }
 
@@ -89,12 +89,13 @@ fn serve<T: Threads + Wait + Files + Sync, R: Read, W: Write + Drop, G: Gate + S
 fn show_file<F: Files, R: Read, W: Write + Drop>(
     files: &F,
     alloc: Global,
+    form: Form,
     path: &str,
     etype: Option<&str>,
     reader: &mut R,
     writer: &mut BufWriter<W>,
 ) -> Result<u8, Fault>
-    ensures shown { HasShownFile (stated_of (text_behind etype.entry)) (R.remaining reader.old)
+    ensures shown { HasShownFile form (stated_of (text_behind etype.entry)) (R.remaining reader.old)
         (writer_contents W.contents writer.old) (writer_contents W.contents writer.new) result }
     ensures flushed { ¬ (result ≡ Err Fault.Write) → writer_buffer writer.new ≡ [] }
 {
@@ -102,7 +103,7 @@ fn show_file<F: Files, R: Read, W: Write + Drop>(
         Ok(stated) => stated,
         Err(fault) => return refuse_key(fault, writer),
     };
-    let outcome = show_under(files, alloc, path, stated, reader, writer);
+    let outcome = show_under(files, alloc, form, path, stated, reader, writer);
     if writer.flush().is_err() {
         return Err(Fault::Write);
     }
@@ -138,22 +139,24 @@ fn refuse_key<W: Write + Drop>(fault: KeyFault, writer: &mut BufWriter<W>) -> Re
 fn show_under<F: Files, R: Read, W: Write>(
     files: &F,
     alloc: Global,
+    form: Form,
     path: &str,
     stated: Option<Etype>,
     reader: &mut R,
     writer: &mut W,
 ) -> Result<u8, Fault>
-    ensures { (file : Option (List ℕ)) × HasShown stated file (R.remaining reader.old)
+    ensures { (file : Option (List ℕ)) × HasShown form stated file (R.remaining reader.old)
         (W.contents writer.old) (W.contents writer.new) result }
 {
     let Ok(mut file) = File::open(files, path) else {
         return Err(Fault::Key(KeyFault::Unreadable));
     };
     let openers = read_key(alloc, &mut file, stated)?;
-    show(alloc, Some(&openers), reader, writer)
+    show(alloc, form, Some(&openers), reader, writer)
 }
 
-/// Runs a command, and answers the exit status. A relay's seal calls stand within the gate.
+/// Runs a command, and answers the exit status. `show` reads its input in this form. A relay's seal
+/// calls stand within the gate.
 ///
 /// All that is written has left the buffer then, unless the fault is the writer's. `vectors` reads
 /// nothing.
@@ -161,18 +164,19 @@ pub fn run<T: Threads + Wait + Sync, R: Read, W: Write + Drop, G: Gate + Sync>(
     rt: &T,
     alloc: Global,
     command: Cmd,
+    form: Form,
     reader: &mut R,
     writer: &mut BufWriter<W>,
     gate: &G,
 ) -> Result<u8, Fault>
-    ensures run { HasRun command (R.remaining reader.old) (writer_contents W.contents writer.old)
+    ensures run { HasRun command form (R.remaining reader.old) (writer_contents W.contents writer.old)
         (writer_contents W.contents writer.new) result }
     ensures within { command ≢ Cmd.Vectors
         → OnOk result (IfSome (R.remaining reader.old) (λ input. length input ≤ input_limit)) }
     ensures flushed { ¬ (result ≡ Err Fault.Write) → writer_buffer writer.new ≡ [] }
     ensures vectors_reads_nothing { command ≡ Cmd.Vectors → reader.new ≡ reader.old }
 {
-    let outcome = command_over(rt, alloc, command, reader, writer, gate);
+    let outcome = command_over(rt, alloc, command, form, reader, writer, gate);
     if writer.flush().is_err() {
         return Err(Fault::Write);
     }
@@ -184,17 +188,18 @@ fn command_over<T: Threads + Wait + Sync, R: Read, W: Write, G: Gate + Sync>(
     rt: &T,
     alloc: Global,
     command: Cmd,
+    form: Form,
     reader: &mut R,
     writer: &mut W,
     gate: &G,
 ) -> Result<u8, Fault>
-    ensures done { IfOk result (λ status. Does command (R.remaining reader.old)
+    ensures done { IfOk result (λ status. Does command form (R.remaining reader.old)
         (W.contents writer.old) (W.contents writer.new) status) }
     ensures within { command ≢ Cmd.Vectors
         → OnOk result (IfSome (R.remaining reader.old) (λ input. length input ≤ input_limit)) }
     ensures vectors_reads_nothing { command ≡ Cmd.Vectors → reader.new ≡ reader.old }
 
-    ensures prefix { OnErr result (DoesPrefix command (R.remaining reader.old)
+    ensures prefix { OnErr result (DoesPrefix command form (R.remaining reader.old)
         (W.contents writer.old) (W.contents writer.new)) }
     ensures stopped { (lines : ℕ) → result ≡ Err (Fault.Stopped lines)
         → DoesFirst command lines (R.remaining reader.old)
@@ -210,7 +215,7 @@ fn command_over<T: Threads + Wait + Sync, R: Read, W: Write, G: Gate + Sync>(
     ensures no_key { (key : KeyFaultValue) → ¬ (result ≡ Err (Fault.Key key)) }
 {
     match command {
-        Cmd::Show => show(alloc, None, reader, writer),
+        Cmd::Show => show(alloc, form, None, reader, writer),
         Cmd::Vectors => vectors(alloc, writer),
         Cmd::Seal => seal(alloc, reader, writer),
         Cmd::Open => open(alloc, reader, writer),

@@ -1,6 +1,6 @@
 -- One subcommand more.
 use Rattle.std.proofs.Common.{◌≡◌, ◌∙◌, ap, false, Result, Ok, Err, IfOk}
-use Rattle.clap.specs.Simple.{shape_of, with_subcommand}
+use Rattle.clap.specs.Simple.{with_subcommand}
 use Rattle.clap.specs.Words.{app_of, AddsSubcommand, App}
 use Rattle.clap.specs.declared.builder.command.Command.TheViews.{out-Command as fields_of}
 use Rattle.clap.specs.declared.builder.command.Command.{Command}

@@ -1,12 +1,12 @@
 use Rattle.std.proofs.Common.{◌≡◌, true, rules}
+use Rattle.krb_commands.specs.declared.form.Form.TheVariants.{Any}
 use Rattle.krb_commands.specs.Key.{key_of}
 use Rattle.krb_commands.specs.Reading.{is_message}
 use Rattle.krb_commands.proofs.ShowLemmas.{nothing_of_input, whole_shown, whole_prefix, on_err}
-use Rattle.krb_commands.proofs.OutputLemmas.{AppendsPrefix-whole}
-use Rattle.krb_commands.proofs.messages.show_input.Goals as goal
+use Rattle.krb_commands.proofs.messages.show_any.Goals as goal
 
 pub returns-in_err-whole-clause-prefix : goal.returns-in_err-whole-clause-prefix
-returns-in_err-whole-clause-prefix g c = on_err _ c.from_residual.result (nothing_of_input _ _ c.args.input.now)
+returns-in_err-whole-clause-prefix g c = on_err _ c.from_residual.result (nothing_of_input Any _ _ c.args.input.now)
 
 pub returns-in_err-accepted-clause-prefix : goal.returns-in_err-accepted-clause-prefix
 returns-in_err-accepted-clause-prefix g c =
