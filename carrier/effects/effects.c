@@ -4,7 +4,6 @@
 #include "text.h"
 
 #include <dlfcn.h>
-#include <pthread.h>
 #include <stdlib.h>
 #include <string.h>
 
@@ -13,14 +12,13 @@ enum { REMEMBERED = 4096 };
 /* A text that was refused, and how often. */
 struct refused { uint64_t number; unsigned part, times; char session[CARRIER_NAME], reason[EFFECT_REASON]; };
 
-/* Those that this thread, which serves one shard, met last: a transaction that is given up may have many. */
-struct memory { size_t next; struct refused at[REMEMBERED]; };
+/* Those that a shard met last: a transaction that is given up may have many. */
+struct refusals { size_t next; struct refused at[REMEMBERED]; };
 
 static struct {
     effect_call *call;
     int (*of_object)(struct store *, const struct arrived *);
     unsigned tries;
-    pthread_key_t memory;
 } chosen;
 
 /* ---- Which effect */
@@ -81,29 +79,16 @@ int effects_choose(const char *word, unsigned tries)
 {
     chosen.call = take_row;
     chosen.tries = tries;
-    if (pthread_key_create(&chosen.memory, free) != 0)
-        return -1;
     return word != NULL ? choose(word) : 0;
 }
 
 /* ---- Texts that are refused */
 
-static struct memory *remember(void)
-{
-    struct memory *memory = pthread_getspecific(chosen.memory);
-    if (memory == NULL && (memory = calloc(1, sizeof *memory)) != NULL
-        && pthread_setspecific(chosen.memory, memory) != 0) {
-        free(memory);
-        memory = NULL;
-    }
-    return memory;
-}
-
-static struct refused *find(struct memory *memory, const struct arrived *it)
+static struct refused *find(struct refusals *of, const struct arrived *it)
 {
     size_t i;
     for (i = 0; i < REMEMBERED; i++) {
-        struct refused *at = &memory->at[i];
+        struct refused *at = &of->at[i];
         if (at->times > 0 && at->number == it->number && at->part == it->part
             && strcmp(at->session, it->session) == 0)
             return at;
@@ -111,12 +96,12 @@ static struct refused *find(struct memory *memory, const struct arrived *it)
     return NULL;
 }
 
-static struct refused *find_or_add(struct memory *memory, const struct arrived *it)
+static struct refused *find_or_add(struct refusals *of, const struct arrived *it)
 {
-    struct refused *found = find(memory, it);
+    struct refused *found = find(of, it);
     if (found != NULL)
         return found;
-    found = &memory->at[memory->next++ % REMEMBERED];
+    found = &of->at[of->next++ % REMEMBERED];
     *found = (struct refused){ .number = it->number, .part = it->part };
     (void)copy_text(found->session, sizeof found->session, it->session); /* its room is a name's */
     return found;
@@ -134,9 +119,9 @@ static int put_aside(struct store *store, const struct arrived *it, const char *
 }
 
 /* Notes that a text was refused, if that is what the fault was. */
-static void note(struct memory *memory, const struct arrived *it, const char *reason)
+static void note(struct refusals *of, const struct arrived *it, const char *reason)
 {
-    struct refused *refused = find_or_add(memory, it);
+    struct refused *refused = find_or_add(of, it);
     refused->times++;
     copy_cut(refused->reason, sizeof refused->reason, reason);
     log_fact(LEVEL_WARNING, "text_refused", field_text("session", it->session), field_number("number", it->number),
@@ -144,7 +129,7 @@ static void note(struct memory *memory, const struct arrived *it, const char *re
 }
 
 /* All that was asked before this text is waited for, and then its own, so that a fault is known to be of it. */
-static int take_alone(struct store *store, const struct arrived *it, struct memory *memory)
+static int take_alone(struct store *store, const struct arrived *it, struct refusals *of)
 {
     char reason[EFFECT_REASON] = "";
     const char *of_store;
@@ -158,22 +143,20 @@ static int take_alone(struct store *store, const struct arrived *it, struct memo
         return 0;
     of_store = store->refusal(store);
     if (answer == EFFECT_REFUSED || of_store != NULL)
-        note(memory, it, answer == EFFECT_REFUSED ? reason : of_store);
+        note(of, it, answer == EFFECT_REFUSED ? reason : of_store);
     return -1;
 }
 
-int effects_take(struct store *store, const struct arrived *it)
+int effects_take(struct store *store, const struct arrived *it, struct refusals **of)
 {
-    struct memory *memory;
     struct refused *refused;
     char reason[EFFECT_REASON] = "";
     if (chosen.tries == 0)
         return chosen.call(store, it, reason) == 0 ? 0 : -1;
-    memory = remember();
-    if (memory == NULL)
+    if (*of == NULL && (*of = calloc(1, sizeof **of)) == NULL)
         return -1;
-    refused = find(memory, it);
+    refused = find(*of, it);
     if (refused != NULL && refused->times >= chosen.tries)
         return put_aside(store, it, refused->reason) == 0 ? EFFECT_ASIDE : -1;
-    return take_alone(store, it, memory);
+    return take_alone(store, it, *of);
 }

@@ -27,8 +27,12 @@
 /* Chooses it, before any shard is served; NULL is the effect of effect.c. 0, or -1 with a report. */
 int effects_choose(const char *word, unsigned tries);
 
-/* The effect of one text, as take_effect, or EFFECT_ASIDE: it is put aside. */
-int effects_take(struct store *store, const struct arrived *it);
+/* Texts of one shard that were refused, and how often. */
+struct refusals;
+
+/* The effect of one text, as take_effect, or EFFECT_ASIDE: it is put aside. The shard's refusals are made when they
+ * are first needed; whoever serves the shard frees them with it. */
+int effects_take(struct store *store, const struct arrived *it, struct refusals **of);
 
 /* ---- For effects: one that refuses a text says why, and answers EFFECT_REFUSED. */
 

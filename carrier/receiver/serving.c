@@ -16,12 +16,10 @@ enum { WAIT = 100, SHORTEST = 200, LONGEST = 5000 }; /* milliseconds */
 /* What the thread and its owner both use is read and written atomically. */
 struct thread {
     pthread_t thread;
-    struct shard shard;
+    struct served served;
     enum shard_state state;  /* of the owner alone, as is: */
     int has_closed;
-    int is_left;             /* it is to end */
     int has_begun, has_ended, is_closed;
-    uint64_t answered;       /* when the carrier answered last */
 };
 
 static struct {
@@ -43,7 +41,7 @@ static int is_set(const int *flag)
     return __atomic_load_n(flag, __ATOMIC_SEQ_CST);
 }
 
-/* ---- A thread */
+/* ---- One shard */
 
 /* Has a shard use the file's sessions, unless it does. */
 static void use_sessions(struct shard *shard)
@@ -54,37 +52,21 @@ static void use_sessions(struct shard *shard)
     give_lock(&serving.lock);
 }
 
-static int has_to_end(const struct thread *it)
+static int has_to_end(const struct served *it)
 {
     return is_ending() || is_set(&it->is_left);
 }
 
 /* The store is away: waits for longer each time. */
-static void wait_for_store(const struct thread *it, unsigned *pause)
+static void wait_for_store(struct served *it)
 {
     unsigned waited;
     log_fact(LEVEL_WARNING, "store_away", field_number("shard", it->shard.number),
-             field_number("milliseconds", *pause),
+             field_number("milliseconds", it->pause),
              field_text("text", "it is opened again then, and the shard goes on where it was"));
-    for (waited = 0; waited < *pause && !has_to_end(it); waited += WAIT)
+    for (waited = 0; waited < it->pause && !has_to_end(it); waited += WAIT)
         pause_milliseconds(WAIT);
-    *pause = 2 * *pause < LONGEST ? 2 * *pause : LONGEST;
-}
-
-/* Each second: shows what was counted, and logs it if something was since. */
-static void report(struct shard *shard, uint64_t began, struct shard_counts *before)
-{
-    shard_show(shard, shard->number);
-    if (shard->counts.frames == before->frames)
-        return;
-    shard_report(shard, "shard_progress", nanoseconds() - began);
-    *before = shard->counts;
-}
-
-/* Whether all sessions of the shard are closed, if that is the end. */
-static int is_closed(const struct shard *shard)
-{
-    return shard->options->until_closed && shard->is_loaded && shard->open == 0;
+    it->pause = 2 * it->pause < LONGEST ? 2 * it->pause : LONGEST;
 }
 
 static void fail(void)
@@ -93,50 +75,88 @@ static void fail(void)
     end_now();
 }
 
-/* What waits for the first frame isn't counted in the seconds. */
-static void serve(struct thread *it)
+/* Each second: shows what was counted, and logs it if something was since. */
+static void report(struct served *it)
 {
     struct shard *shard = &it->shard;
-    uint64_t began = nanoseconds(), reported = began;
-    struct shard_counts before = { 0 };
-    unsigned pause = SHORTEST;
-    while (!has_to_end(it) && !is_closed(shard)) {
-        int count;
-        use_sessions(shard);
-        count = shard_step(shard, WAIT);
-        if (shard->answered != 0)
-            __atomic_store_n(&it->answered, shard->answered, __ATOMIC_SEQ_CST);
-        if (count < 0)
-            wait_for_store(it, &pause);
-        else if (shard->is_loaded)
-            pause = SHORTEST;
-        if (shard->counts.accepted == 0 && count == 0)
-            began = nanoseconds();
-        if (nanoseconds() - reported > SECOND) {
-            if (shard->carrier->is_closed(shard->carrier))
-                fail();
-            report(shard, began, &before);
-            reported = nanoseconds();
-        }
+    if (nanoseconds() - it->reported <= SECOND)
+        return;
+    if (shard->carrier->is_closed(shard->carrier))
+        fail();
+    shard_show(shard, shard->number);
+    if (shard->counts.frames != it->before.frames) {
+        shard_report(shard, "shard_progress", nanoseconds() - it->began);
+        it->before = shard->counts;
     }
-    shard_pay_rest(shard);
-    shard_report(shard, "shard_ended", nanoseconds() - began);
-    if (is_closed(shard))
-        set(&it->is_closed);
+    it->reported = nanoseconds();
 }
+
+/* Whether all sessions of the shard are closed, if that is the end. */
+static int is_closed(const struct shard *shard)
+{
+    return shard->options->until_closed && shard->is_loaded && shard->open == 0;
+}
+
+void serving_prepare(struct served *it, unsigned shard)
+{
+    *it = (struct served){ .shard = { .options = serving.options, .number = shard }, .pause = SHORTEST,
+                           .answered = nanoseconds() };
+}
+
+int serving_open(struct served *it)
+{
+    if (shard_start(&it->shard) != 0)
+        return -1;
+    shard_show(&it->shard, it->shard.number);
+    it->began = it->reported = nanoseconds();
+    return 0;
+}
+
+/* What waits for the first frame isn't counted in the seconds. */
+int serving_turn(struct served *it)
+{
+    struct shard *shard = &it->shard;
+    int count;
+    if (has_to_end(it) || is_closed(shard))
+        return 1;
+    use_sessions(shard);
+    count = shard_step(shard, WAIT);
+    if (shard->answered != 0)
+        __atomic_store_n(&it->answered, shard->answered, __ATOMIC_SEQ_CST);
+    if (count < 0)
+        wait_for_store(it);
+    else if (shard->is_loaded)
+        it->pause = SHORTEST;
+    if (shard->counts.accepted == 0 && count == 0)
+        it->began = nanoseconds();
+    report(it);
+    return 0;
+}
+
+void serving_finish(struct served *it)
+{
+    shard_pay_rest(&it->shard);
+    shard_report(&it->shard, "shard_ended", nanoseconds() - it->began);
+}
+
+/* ---- A thread */
 
 static void *work(void *given)
 {
     struct thread *it = given;
-    if (shard_start(&it->shard) == 0) {
+    struct served *served = &it->served;
+    if (serving_open(served) == 0) {
         set(&it->has_begun);
-        shard_show(&it->shard, it->shard.number);
-        serve(it);
+        while (!serving_turn(served))
+            continue;
+        serving_finish(served);
+        if (is_closed(&served->shard))
+            set(&it->is_closed);
     } else if (!is_ending() && !serving.come_and_go) {
         fail();
     }
-    shard_stop(&it->shard);
-    service_leave(it->shard.number);
+    shard_stop(&served->shard);
+    service_leave(served->shard.number);
     set(&it->has_ended);
     return NULL;
 }
@@ -167,9 +187,8 @@ void serving_use(struct sessions *sessions)
 int serving_start(unsigned shard)
 {
     struct thread *it = &serving.threads[shard];
-    *it = (struct thread){ .state = SHARD_SERVED, .answered = nanoseconds() };
-    it->shard.options = serving.options;
-    it->shard.number = shard;
+    *it = (struct thread){ .state = SHARD_SERVED };
+    serving_prepare(&it->served, shard);
     service_expect(shard);
     if (pthread_create(&it->thread, NULL, work, it) == 0) {
         serving.count++;
@@ -185,7 +204,7 @@ int serving_start(unsigned shard)
 void serving_leave(unsigned shard)
 {
     serving.threads[shard].state = SHARD_LEFT;
-    set(&serving.threads[shard].is_left);
+    set(&serving.threads[shard].served.is_left);
 }
 
 void serving_join(void)
@@ -219,7 +238,7 @@ int serving_is_unanswered(void)
     unsigned shard, served = 0;
     for (shard = 0; shard < CARRIER_SHARDS; shard++) {
         const struct thread *it = &serving.threads[shard];
-        if (it->state == SHARD_SERVED && now - __atomic_load_n(&it->answered, __ATOMIC_SEQ_CST) < UNANSWERED)
+        if (it->state == SHARD_SERVED && now - __atomic_load_n(&it->served.answered, __ATOMIC_SEQ_CST) < UNANSWERED)
             return 0;
         served += it->state == SHARD_SERVED;
     }

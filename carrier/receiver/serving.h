@@ -42,4 +42,28 @@ int serving_has_closed(unsigned shard);
 
 void serving_end(void);
 
+/* ---- One shard, as its thread serves it turn by turn. */
+
+struct served {
+    struct shard shard;
+    struct shard_counts before; /* what was reported last, */
+    uint64_t began, reported;   /* and when, in nanoseconds; when it began to work */
+    unsigned pause;             /* milliseconds after which a store that is away is opened again */
+    uint64_t answered;          /* when the carrier answered last: its owner reads this, */
+    int is_left;                /* and sets this: it is to end */
+};
+
+/* The shard is to be served, by serving_begin's options. */
+void serving_prepare(struct served *it, unsigned shard);
+
+/* Opens it. 0, or -1 after a fault. After both shard_stop has to be called in the end. */
+int serving_open(struct served *it);
+
+/* One step of the shard, with the sessions of serving_use, and the pause after a fault of the store. 1 if there is
+ * none since it is to end, or all its sessions are closed and that is the end. */
+int serving_turn(struct served *it);
+
+/* Receipts that are due leave, and what was done is reported: after the last turn. */
+void serving_finish(struct served *it);
+
 #endif

@@ -195,7 +195,7 @@ static void take_unknown(struct shard *s, const struct carried *it)
 /* The effect of a text, or that it is put aside: 0, or -1 after a fault. */
 static int take_text(struct shard *s, const struct arrived *it)
 {
-    int answer = effects_take(s->store, it);
+    int answer = effects_take(s->store, it, &s->refusals);
     s->counts.texts += answer == 0;
     s->aside += answer == EFFECT_ASIDE;
     return answer == EFFECT_ASIDE ? 0 : answer;
@@ -607,4 +607,5 @@ void shard_stop(struct shard *s)
     free(s->bytes);
     free(s->frames);
     free(s->of_frames);
+    free(s->refusals);
 }

@@ -87,6 +87,7 @@ struct shard {
     struct kerberos *kerberos;     /* NULL: no session begins by a ticket */
     unsigned number;
     struct store *store;           /* NULL: it has to be opened (again) */
+    struct refusals *refusals;     /* texts that an effect refused (effects.h), or NULL */
     struct carrier *carrier;
     void *receivings;              /* tsearch's tree of a struct receiving for each session */
     size_t count;                  /* so many there are, and these lists have room for: */

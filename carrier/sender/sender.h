@@ -1,6 +1,6 @@
 /* The state of a sender, in five parts: sender_sessions.c has its sessions, texts.c takes texts
- * from the outbox, publish.c does for a session what krb_engine says, sender.c stores what was done, and has the
- * loop, and sender_report.c shows it.
+ * from the outbox, publish.c does for a session what krb_engine says, sender.c stores what was done, and has one
+ * round of the loop, and sender_report.c shows it. sender_main.c is the program.
  *
  * What leaves, and when again, what a receipt means and why a session stands is krb_engine's (docs/ENGINE.md):
  * each session has a krbrelay_sending, each shard a krbrelay_flow and a queue of the sessions with something to
@@ -93,6 +93,15 @@ struct sender {
     unsigned left_tries;        /* and so often they were tried in vain */
     uint64_t looked;            /* when it was looked whether the outbox is this process's */
 };
+
+/* Opens all that its options name, of a sender that has nothing else. 0, or -1 after a fault: it has to be closed then
+ * too. */
+int sender_open(struct sender *s);
+
+/* One round. 1 if all is done that can be, or if the answer is a fault or OUTBOX_TAKEN. */
+int sender_step(struct sender *s, enum outbox_answer *answer);
+
+void sender_close(struct sender *s);
 
 /* Tells in the outbox and in the log that a session is stopped. In a transaction. */
 int sender_tell_stopped(struct sender *s, const char *session, const char *reason);
