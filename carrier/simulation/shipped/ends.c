@@ -180,7 +180,6 @@ static void choose_options(void)
 
 void ends_begin(void)
 {
-    static int has_begun;
     int i;
     path_of(sessions_path, "sessions");
     choose_options();
@@ -189,9 +188,8 @@ void ends_begin(void)
     world.shown = has(KIND_LATER) ? world.names - 1 : 0;
     happened(KIND_LATER, has(KIND_LATER) != 0);
     ends_write_sessions();
-    if (!has_begun && serving_begin(&shards, sessions_empty(), 1) != 0)
+    if (serving_begin(&shards, sessions_empty(), 1) != 0)
         exit(2);
-    has_begun = 1;
     ends_use_sessions();
     world.shown = 0;
     ends_write_sessions();

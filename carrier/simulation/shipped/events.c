@@ -53,7 +53,7 @@ static void draw_chances(void)
     faults.slow = has(KIND_SLOW) && drawn(4) == 0 ? 5 : 0;
     faults.database = has(KIND_DATABASE) && drawn(4) == 0 ? 1 + drawn(20) : 0;
     faults.unknown = has(KIND_STORE_UNKNOWN) || has(KIND_OUTBOX_UNKNOWN) ? 30 : 0;
-    faults.memory = has(KIND_MEMORY) && drawn(3) == 0 ? 20 : 0;
+    faults.memory = has(KIND_MEMORY) && drawn(3) == 0 ? 100 : 0;
     faults.killed = has(KIND_KILLED) && drawn(5) == 0 ? 20 : 0;
     faults.slow_effects = has(KIND_SLOW_EFFECTS) ? 400 : 0;
 }
@@ -379,13 +379,6 @@ static void set_clocks(void)
 }
 
 /* ---- */
-
-void events_begin(void)
-{
-    memset(next_of_copy, 0, sizeof next_of_copy);
-    memset(&faults, 0, sizeof faults);
-    faults.carrier_at = now;
-}
 
 void events_second(void)
 {

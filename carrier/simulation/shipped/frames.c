@@ -58,27 +58,11 @@ static void cut(struct items *it, size_t count)
         free(it->at[--it->count].bytes);
 }
 
-static void forget(struct items *it)
-{
-    cut(it, it->count);
-    free(it->at);
-    *it = (struct items){ 0 };
-}
-
 void frames_begin(void)
 {
     unsigned i;
     for (i = 0; i < SHARDS; i++)
         shards[i].incarnation = 1 + drawn(1000000);
-    memset(published, 0, sizeof published);
-}
-
-void frames_end(void)
-{
-    unsigned i;
-    for (i = 0; i < SHARDS; i++)
-        forget(&shards[i].items);
-    forget(&receipts);
 }
 
 void frames_delete(unsigned shard)

@@ -8,11 +8,16 @@
 static const char *const words_of[] = { KINDS(KIND_WORD) }, *const texts_of[] = { KINDS(KIND_TEXT) };
 
 static unsigned char chosen[KIND_COUNT], now[KIND_COUNT];
-static uint64_t counts[KIND_COUNT];
+static uint64_t *counts;
 
 int has(enum kind kind)
 {
     return now[kind];
+}
+
+void kinds_count_at(uint64_t at[KIND_COUNT])
+{
+    counts = at;
 }
 
 void happened(enum kind kind, uint64_t times)

@@ -43,7 +43,8 @@ enum kind { KINDS(KIND_VALUE) KIND_COUNT };
 /* Whether this run has the kind. */
 int has(enum kind kind);
 
-/* It happened so often. */
+/* Where it is counted; it happened so often. */
+void kinds_count_at(uint64_t at[KIND_COUNT]);
 void happened(enum kind kind, uint64_t times);
 
 /* From now on runs have these kinds. 0 if one of the words is none. */

@@ -4,8 +4,11 @@
 #include <stdio.h>
 #include <stdlib.h>
 #include <string.h>
+#include <sys/mman.h>
+#include <sys/resource.h>
 #include <sys/stat.h>
-#include <time.h>
+#include <sys/wait.h>
+#include <unistd.h>
 
 enum { FEW = 6, LOTS = 210, MOST_BESIDES = 3 };
 
@@ -70,17 +73,7 @@ static void begin_world(uint64_t seed)
     draw_kinds(seed);
     empty_folder();
     world.seed = seed;
-    world.second = world.kills = world.ends = world.full = 0;
     world.names = has(KIND_MANY) ? LOTS : FEW;
-    world.others = 0;
-    world.is_flooded = 0;
-    world.saved.is_used = 0;
-    memset(world.name, 0, sizeof world.name);
-    memset(world.is_up, 0, sizeof world.is_up);
-    memset(world.resumes, 0, sizeof world.resumes);
-    memset(world.was_taken, 0, sizeof world.was_taken);
-    for (i = 0; i < BOXES; i++)
-        memset(world.boxes[i].count, 0, sizeof world.boxes[i].count);
     for (i = 0; i < world.names; i++)
         world.name[i].shard = has(KIND_MANY) ? 0 : i % SHARDS;
 }
@@ -89,10 +82,8 @@ static void begin_world(uint64_t seed)
 static void begin(uint64_t seed)
 {
     begin_world(seed);
-    events_begin();
+    faults.carrier_at = now;
     said_begin();
-    rules_begin();
-    effects_begin();
     frames_begin();
     ends_begin();
     ends_step(SENDER);
@@ -145,16 +136,13 @@ static void end(void)
     rules_end();
     for (party = SENDER; party < PARTIES; party++)
         ends_stop(party, 1, 0);
-    frames_end();
     box_close(&world.boxes[0]);
     box_close(&world.boxes[1]);
 }
 
-/* Whether it went well. */
-static int run(uint64_t seed)
+static void run(uint64_t seed)
 {
     uint64_t next;
-    char before[80];
     begin(seed);
     next = now + SECOND;
     while (!is_done()) {
@@ -166,8 +154,48 @@ static int run(uint64_t seed)
         }
     }
     end();
+}
+
+/* ---- All runs, each in a process of its own, so that none depends on those before */
+
+static struct totals { uint64_t counts[KIND_COUNT], steps, nanoseconds; } *totals;
+
+/* Whether it went well. */
+static int run_and_print(uint64_t seed)
+{
+    char before[40];
+    run(seed);
+    totals->steps += world.steps;
+    totals->nanoseconds += now;
     (void)snprintf(before, sizeof before, "seed %llu: ", (unsigned long long)seed);
-    return rules_print(before) == 0;
+    if (rules_print(before) == 0)
+        return 1;
+    printf("    carrier/simulation/shipped/simulate %s %llu\n", kinds_profile(), (unsigned long long)seed);
+    return 0;
+}
+
+static int run_apart(uint64_t seed)
+{
+    int status = 0;
+    pid_t child = fork();
+    if (child == 0) {
+        int is_fine = run_and_print(seed);
+        (void)fflush(stdout);
+        _exit(!is_fine);
+    }
+    if (child < 0 || waitpid(child, &status, 0) < 0)
+        exit(2);
+    if (WIFSIGNALED(status))
+        printf("seed %llu: the run was ended by signal %d\n", (unsigned long long)seed, WTERMSIG(status));
+    return status == 0;
+}
+
+static double processor_seconds(void)
+{
+    struct rusage used;
+    (void)getrusage(RUSAGE_CHILDREN, &used); /* always 0 of this word */
+    return (double)(used.ru_utime.tv_sec + used.ru_stime.tv_sec)
+           + (double)(used.ru_utime.tv_usec + used.ru_stime.tv_usec) / 1e6;
 }
 
 /* ---- */
@@ -203,18 +231,18 @@ int main(int count, char **words)
         (void)fputs(usage, stderr);
         return 2;
     }
+    totals = mmap(NULL, sizeof *totals, PROT_READ | PROT_WRITE, MAP_SHARED | MAP_ANONYMOUS, -1, 0);
+    if (totals == MAP_FAILED)
+        return 2;
+    kinds_count_at(totals->counts);
     first = strtoull(words[3], NULL, 10);
     last = first + strtoull(words[4], NULL, 10);
     umask(077); /* as the programs do */
     for (seed = first; seed < last; seed++)
-        if (!run(seed)) {
-            failed++;
-            printf("    carrier/simulation/simulate %s %llu 1\n", kinds_profile(), (unsigned long long)seed);
-            (void)fflush(stdout); /* each as soon as it is known */
-        }
+        failed += !run_apart(seed);
     kinds_print();
-    printf("%llu steps, %llu virtual seconds, %.1f s of a processor\n", (unsigned long long)world.steps,
-           (unsigned long long)(now / SECOND), (double)clock() / CLOCKS_PER_SEC);
+    printf("%llu steps, %llu virtual seconds, %.1f s of a processor\n", (unsigned long long)totals->steps,
+           (unsigned long long)(totals->nanoseconds / SECOND), processor_seconds());
     printf("%llu passed, %llu failed\n", (unsigned long long)(last - first - failed), (unsigned long long)failed);
     return failed > 0;
 }

@@ -32,7 +32,6 @@ unsigned name_of(const char *session);
 /* ---- The carrier (frames.c) */
 
 void frames_begin(void);
-void frames_end(void);
 
 /* A shard is another list from now on; its last frames are gone; the kept receipts are gone; whether one is kept. */
 void frames_delete(unsigned shard);
@@ -46,8 +45,6 @@ unsigned long frames_published(unsigned name);
 /* ---- Effects (refusing.c) */
 
 struct poison { unsigned name, serial; int is_error; uint64_t until; };
-
-void effects_begin(void);
 
 /* A text is refused until this moment: by a constraint, or by another error. */
 void effects_poison(struct poison it);

@@ -21,13 +21,6 @@ static unsigned count;
 static unsigned short runs[MOST_NAMES][MOST_TEXTS];
 static unsigned long watchdogs;
 
-void effects_begin(void)
-{
-    memset(runs, 0, sizeof runs);
-    count = 0;
-    watchdogs = 0;
-}
-
 void effects_poison(struct poison it)
 {
     if (count < MOST_POISONS)

@@ -48,15 +48,6 @@ unsigned rules_print(const char *before)
     return count;
 }
 
-void rules_begin(void)
-{
-    memset(broken, 0, sizeof broken);
-    memset(last_effect, 0, sizeof last_effect);
-    memset(last_aside, 0, sizeof last_aside);
-    unseen = spinning = 0;
-    calls_before = statements_calls();
-}
-
 /* ---- What took effect */
 
 /* Texts of two outboxes have an order in each alone. */

@@ -84,7 +84,6 @@ uint64_t ends_next(void);
 
 /* ---- events.c: what happens in a second that is disturbed; the world is fair; what a copy of an outbox knew */
 
-void events_begin(void);
 void events_second(void);
 void events_end(void);
 
@@ -96,7 +95,6 @@ void events_end(void);
 #define RULE_VALUE(name) RULE_##name,
 enum rule { RULES(RULE_VALUE) RULE_COUNT };
 
-void rules_begin(void);
 void rules_second(void);
 void rules_end(void);
 void rule_broken(enum rule rule, const char *form, ...) __attribute__((format(printf, 2, 3)));
