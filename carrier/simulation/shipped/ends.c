@@ -9,7 +9,7 @@
 #include <stdlib.h>
 #include <string.h>
 
-enum { TRIES = 3, BATCH = 64, LONG_BATCH = 200, WAITING = 100, SKEW = 600, LONG_SKEW = 86400, RESTARTED = 2000 };
+enum { TRIES = 3, LIFE = 5, LONG_LIFE = 86400, BATCH = 64, LONG_BATCH = 200, WAITING = 100, SKEW = 600, LONG_SKEW = 86400, RESTARTED = 2000 };
 
 static struct sender senders[SENDERS];
 static struct served receivers[RECEIVERS];
@@ -28,7 +28,7 @@ void ends_write_sessions(void)
     to = fopen(path, "w");
     if (to == NULL)
         exit(2);
-    for (i = 0; i < all; i++)
+    for (i = 0; i < all && !is_stream(i); i++)
         (void)fprintf(to, "s%u %u 17 priv 01%030x 1 10.0.0.1 10.0.0.2 %02x%030x\n", i, world.name[i].shard, i + 1,
                       i % 100 + 101, i + 2);
     for (i = 0; i < world.others; i++)
@@ -45,6 +45,13 @@ void ends_use_sessions(void)
     sessions_forget(file);
 }
 
+/* Streams are in all shards. */
+static struct kerberos_options kerberos(void)
+{
+    return (struct kerberos_options){ .keytab = has(KIND_TICKETS) ? "keytab" : NULL, .client = "sender",
+                                      .service = "receiver", .allowed = "clients", .etype = 18, .shards = SHARDS };
+}
+
 /* ---- A sender */
 
 static struct sender *sender_of(int party)
@@ -57,8 +64,8 @@ static void start_sender(int party)
     const struct box *of = &world.boxes[has(KIND_FORKED) && party == SENDER_2];
     struct sender *it = sender_of(party);
     memset(it, 0, sizeof *it);
-    it->options = (struct options){ .carrier = { .where = "memory", .replicas = 1 }, .kerberos = { .etype = 18, .shards = 1 },
-                                    .life = 86400, .sessions = sessions_path, .outbox = of->path, .batch = 1,
+    it->options = (struct options){ .carrier = { .where = "memory", .replicas = 1 }, .kerberos = kerberos(),
+                                    .life = has(KIND_TICKETS) ? LIFE : LONG_LIFE, .sessions = sessions_path, .outbox = of->path, .batch = 1,
                                     .most_waiting = has(KIND_BOUNDED) ? WAITING : 0 };
     world.is_up[party] = sender_open(it) == 0;
 }
@@ -173,7 +180,7 @@ static void choose_options(void)
     memmove(store + strlen("sqlite:"), store, strlen(store) + 1);
     memcpy(store, "sqlite:", strlen("sqlite:"));
     shards = (struct shard_options){ .store = store, .carrier = { .where = "memory", .replicas = 1 },
-                                     .kerberos = { .shards = 1 }, .batch = has(KIND_SLOW_EFFECTS) ? LONG_BATCH : BATCH,
+                                     .kerberos = kerberos(), .batch = has(KIND_SLOW_EFFECTS) ? LONG_BATCH : BATCH,
                                      .skew = has(KIND_CLOCK) ? SKEW : LONG_SKEW };
     (void)effects_choose(NULL, has(KIND_ASIDE) ? TRIES : 0); /* it only fails for a word */
 }

@@ -58,6 +58,17 @@ static void draw_chances(void)
     faults.slow_effects = has(KIND_SLOW_EFFECTS) ? 400 : 0;
 }
 
+/* ---- Streams */
+
+/* For some seconds no key can be read, or no ticket be had. */
+static void take_keys(void)
+{
+    if (has(KIND_KEYS) && drawn(3) == 0)
+        faults.has_no_keys = drawn(2) == 0;
+    if (has(KIND_KDC) && drawn(3) == 0)
+        faults.has_no_tickets = drawn(2) == 0;
+}
+
 /* ---- One statement, or one table, fails for a while */
 
 static void strike(const char *statement, int of_receivers, unsigned times, uint64_t until)
@@ -217,10 +228,10 @@ static void forbid(const sqlite3_int64 next[MOST_NAMES], const char sealed[MOST_
     unsigned i;
     for (i = 0; i < world.names; i++) {
         struct name *it = &world.name[i];
-        if (next[i] <= next_of_copy[i])
+        if (next[i] <= next_of_copy[i] && !is_stream(i))
             continue;
         it->has_advanced = it->is_struck = 1;
-        if (sealed[i] || !frames_have_receipt(i))
+        if (sealed[i] || !frames_have_receipt(i) || is_stream(i))
             continue;
         it->is_forbidden = 1;
         it->forbidden_from = it->serials;
@@ -387,6 +398,7 @@ void events_second(void)
     if (world.second >= DISTURBED)
         return;
     draw_chances();
+    take_keys();
     strike_some();
     stop_programs();
     harm_carrier();

@@ -34,6 +34,9 @@
     X(SLOW_EFFECTS, "slow_effects", "effects that took 400 ms") \
     X(CLOCK, "clock", "seconds in which a sender's clock was wrong by three hours") \
     X(BOUNDED, "bounded", "texts that a full outbox refused") \
+    X(TICKETS, "tickets", "openings of streams by tickets") \
+    X(KEYS, "keys", "keys of streams that couldn't be read or wrapped") \
+    X(KDC, "kdc", "tickets that the KDC didn't give") \
     X(MANY, "many", "texts of 210 sessions of one shard") \
     X(BURSTS, "bursts", "bursts of 1,200 texts")
 

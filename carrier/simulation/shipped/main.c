@@ -30,10 +30,17 @@ void path_of(char path[PATHS], const char *file)
     (void)snprintf(path, PATHS, "%s/%s", world.folder, file); /* main looks at the folder's length */
 }
 
+/* A session by a ticket has a name that begins with `t` and the number of its stream. */
 unsigned name_of(const char *session)
 {
-    unsigned long number = session[0] == 's' && session[1] != 0 ? strtoul(session + 1, NULL, 10) : MOST_NAMES;
+    int is_one = (session[0] == 's' || session[0] == 't') && session[1] >= '0' && session[1] <= '9';
+    unsigned long number = is_one ? strtoul(session + 1, NULL, 10) : MOST_NAMES;
     return number < MOST_NAMES ? (unsigned)number : MOST_NAMES;
+}
+
+int is_stream(unsigned name)
+{
+    return has(KIND_TICKETS) && name >= world.names / 2;
 }
 
 /* ---- A run */

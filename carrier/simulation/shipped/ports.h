@@ -16,6 +16,7 @@ struct faults {
     uint64_t from, until;           /* between these moments, */
     int code;                       /* with this code */
     int64_t clock[PARTIES];         /* seconds by which a clock is ahead */
+    int has_no_keys, has_no_tickets; /* the keytab can't be read; the KDC is away */
     int is_over;                    /* the world is fair from now on */
     uint64_t carrier_at;            /* when frames couldn't leave last, or nobody could hear of them */
     unsigned long injected, of_stores; /* faults so far, and those of stores */

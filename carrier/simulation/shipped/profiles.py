@@ -32,6 +32,9 @@ PASSES = [
     Row("many+carrier", 2),
     Row("statement", 7),
     Row("refused_a_while+killed", 5, "lost,carrier,slow"),
+    Row("tickets", 25, MANY),
+    Row("tickets+keys+kdc", 10, FEW),
+    Row("tickets+restored", 3, "lost,slow,memory"),
 ]
 
 
@@ -63,10 +66,12 @@ FAILS = [
     Found("clock", 1, "AWAY", "a session that is refused counts as one that the carrier doesn't take"),
     Found("clock", 1, "UNHEALTHY", "the same: /healthz answers 503"),
     Found("forked+killed+unreadable", 12, "LOST", "a failed read of a frame when a receipt comes: a copy's counts as the own"),
+    Found("forked+tickets", 1, "AWAY", "a stream's session that is refused as forked counts as one that the carrier doesn't take"),
     Found("outbox_unknown", 1, "UNTOLD", "a commit that happened and says no leaves sessions standing, and nothing says so"),
 ]
 
-# Each mutant of carrier/tests/mutants.py that needs no server and no ticket: what finds it.
+# Each mutant of carrier/tests/mutants.py that is none of NATS's calls, of real openings (opening.c) or of a frame that
+# somebody copies into another shard: what finds it.
 MUTANTS = {
     "no compare-and-set": ("lost+carrier+killed", 1, "DOUBLED"),
     "receipts ask for nothing": ("cut", 1, "STANDS"),
@@ -77,4 +82,6 @@ MUTANTS = {
     "receipts from before aren't read": ("restored", 6, "LEFT_OUT"),
     "later texts are taken first": ("bursts+carrier", 4, "OVERTAKEN"),
     "receipts aren't sealed again": ("lost+killed", 1, "STANDS"),
+    "a stream goes on without its key": ("keys+tickets", 1, "OVERTAKEN"),
+    "no session waits for the one before": ("cut+killed+slow+tickets", 2, "OVERTAKEN"),
 }

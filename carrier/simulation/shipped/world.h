@@ -55,6 +55,9 @@ extern struct world world;
 /* A path in the run's folder. */
 void path_of(char path[PATHS], const char *file);
 
+/* Whether a name has no line: it is a stream of sessions by tickets. */
+int is_stream(unsigned name);
+
 /* ---- boxes.c */
 
 void box_open(struct box *it);
