@@ -158,9 +158,12 @@ struct tickets *tickets_open(const struct kerberos_options *options)
 
 int tickets_have(struct tickets *tickets)
 {
-    happened(KIND_KDC, faults.has_no_tickets != 0);
     tickets->has_tried = 1;
-    return !faults.has_no_tickets;
+    if (!faults.has_no_tickets)
+        return 1;
+    happened(KIND_KDC, 1);
+    faults.carrier_at = now; /* no frame of a session that begins can leave */
+    return 0;
 }
 
 int tickets_have_tried(struct tickets *tickets)
