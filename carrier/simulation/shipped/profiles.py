@@ -82,6 +82,6 @@ MUTANTS = {
     "receipts from before aren't read": ("restored", 6, "LEFT_OUT"),
     "later texts are taken first": ("bursts+carrier", 4, "OVERTAKEN"),
     "receipts aren't sealed again": ("lost+killed", 1, "STANDS"),
-    "a stream goes on without its key": ("keys+tickets", 1, "OVERTAKEN"),
+    "a stream goes on without its key": ("keys+tickets", 4, "OVERTAKEN"),
     "no session waits for the one before": ("cut+killed+slow+tickets", 2, "OVERTAKEN"),
 }
