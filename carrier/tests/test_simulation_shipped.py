@@ -1,5 +1,6 @@
 """Drawn runs of the shipped sender and receivers (carrier/simulation/shipped): no profile of the gate breaks a rule, each
-kind of fault in them happens, what the tree doesn't pass is left out by name, and each mutant is found."""
+kind of fault in them happens, what the tree doesn't pass is left out by name, and each mutant and planted fault is found, where the tree as it is breaks
+no such rule."""
 import os
 import re
 
@@ -68,6 +69,12 @@ def test_each_mutant_is_in_the_table():
         "nats_publisher.c", "opening.c", "shard_open.c"}}
 
 
-@pytest.mark.parametrize("name", profiles.MUTANTS)
-def test_a_mutant_is_found(name):
+def test_each_planted_fault_is_in_the_table():
+    assert set(simulate.plants.EDITS) == set(simulate.plants.FOUND)
+
+
+@pytest.mark.parametrize("name", profiles.MUTANTS | simulate.plants.FOUND)
+def test_a_mutant_is_found(program, name):
+    profile, seed, rule = (profiles.MUTANTS | simulate.plants.FOUND)[name]
     assert simulate.finds_mutant(simulate.library(), name)
+    assert rule not in simulate.breaks(program, profile, seed)

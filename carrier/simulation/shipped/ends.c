@@ -9,7 +9,10 @@
 #include <stdlib.h>
 #include <string.h>
 
-enum { TRIES = 3, LIFE = 5, LONG_LIFE = 86400, BATCH = 64, LONG_BATCH = 200, WAITING = 100, SKEW = 600, LONG_SKEW = 86400, RESTARTED = 2000 };
+enum {
+    TRIES = 3, BATCH = 64, LONG_BATCH = 200, WAITING = 100, RESTARTED = 2000,
+    LIFE = 5, LONG_LIFE = 86400, SKEW = 600, LONG_SKEW = 86400 /* seconds */
+};
 
 static struct sender senders[SENDERS];
 static struct served receivers[RECEIVERS];
@@ -65,8 +68,8 @@ static void start_sender(int party)
     struct sender *it = sender_of(party);
     memset(it, 0, sizeof *it);
     it->options = (struct options){ .carrier = { .where = "memory", .replicas = 1 }, .kerberos = kerberos(),
-                                    .life = has(KIND_TICKETS) ? LIFE : LONG_LIFE, .sessions = sessions_path, .outbox = of->path, .batch = 1,
-                                    .most_waiting = has(KIND_BOUNDED) ? WAITING : 0 };
+                                    .life = has(KIND_TICKETS) ? LIFE : LONG_LIFE, .sessions = sessions_path,
+                                    .outbox = of->path, .batch = 1, .most_waiting = has(KIND_BOUNDED) ? WAITING : 0 };
     world.is_up[party] = sender_open(it) == 0;
 }
 
@@ -132,7 +135,8 @@ static void note_end(int party)
 
 void ends_step(int party)
 {
-    static void (*const starts[])(int) = { start_receiver, start_sender }, (*const steps[])(int) = { step_receiver, step_sender };
+    static void (*const starts[])(int) = { start_receiver, start_sender };
+    static void (*const steps[])(int) = { step_receiver, step_sender };
     int was_up = world.is_up[party];
     uint64_t took = 0;
     world.steps++;

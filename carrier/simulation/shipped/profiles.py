@@ -65,7 +65,7 @@ FAILS = [
     Found("clock", 1, "AWAY", "a session that is refused counts as one that the carrier doesn't take"),
     Found("clock", 1, "UNHEALTHY", "the same: /healthz answers 503"),
     Found("forked+killed+unreadable", 12, "LOST", "a failed read of a frame when a receipt comes: a copy's counts as the own"),
-    Found("restored+tickets", 1, "AWAY", "a stream's session that is refused as forked counts as one that the carrier doesn't take"),
+    Found("restored+tickets", 1, "AWAY", "a stream's session that is refused as forked counts as one that isn't carried"),
     Found("lost+slow+tickets+keys+kdc", 16, "AWAY", "the same of sessions that wait for the one before them"),
     Found("outbox_unknown", 1, "UNTOLD", "a commit that happened and says no leaves sessions standing, and nothing says so"),
 ]

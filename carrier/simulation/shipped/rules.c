@@ -80,6 +80,8 @@ static void see(enum outcome outcome, char **values)
         rule_broken(RULE_DOUBLED, "s%u text %u took effect twice", name, serial);
     it->outcome[serial] = (unsigned char)outcome;
     happened(KIND_ASIDE, outcome == PUT_ASIDE);
+    if (outcome == PUT_ASIDE && effects_run(name, serial) < TRIES)
+        rule_broken(RULE_ASIDE_EARLY, "s%u text %u was put aside after %u tries", name, serial, effects_run(name, serial));
     if (outcome == TOOK_EFFECT)
         see_effect(it, name, serial);
 }
@@ -235,7 +237,8 @@ static void look_at_boxes(int with_texts, int is_end)
 
 static void look_at_frames(unsigned name)
 {
-    unsigned long most = (unsigned long)FRAMES_OF_A_TEXT * world.name[name].serials + FRAMES_OF_A_SECOND * world.second + FRAMES;
+    unsigned long most = (unsigned long)FRAMES_OF_A_TEXT * world.name[name].serials
+                         + FRAMES_OF_A_SECOND * world.second + FRAMES;
     if (frames_published(name) <= most)
         return;
     world.is_flooded = 1;
@@ -264,8 +267,8 @@ static void look_at_runs(unsigned name)
         return;
     for (i = 0; i < world.name[name].serials; i++)
         if (effects_run(name, i) > most)
-            rule_broken(RULE_REPEATED, "the effect of s%u text %u was run %u times, with %lu kills and faults, %lu by the watchdog",
-                        name, i, effects_run(name, i), causes, effects_watchdogs());
+            rule_broken(RULE_REPEATED, "the effect of s%u text %u was run %u times, with %lu kills and faults, %lu by the"
+                        " watchdog", name, i, effects_run(name, i), causes, effects_watchdogs());
 }
 
 /* ---- What is said of it */
