@@ -19,20 +19,22 @@ class Row(typing.NamedTuple):
 
 # What the gate runs, each seed of it without a fault.
 PASSES = [
-    Row("lost", 30, MANY),
-    Row("carrier+killed", 30, MANY),
+    Row("lost", 25, MANY),
+    Row("carrier+killed", 20, MANY),
     Row("deleted+killed+purged", 10, MANY),
-    Row("restored", 10, "lost,slow,memory,deleted"),
+    Row("cut", 4, FEW),
+    Row("moved", 4, FEW),
+    Row("restored", 8, "lost,slow,memory,deleted"),
     Row("restored+killed", 5, "lost,slow,memory"),
-    Row("forked", 4, FEW),
-    Row("forked+killed", 3, "slow,memory"),
-    Row("bursts+carrier", 3, "lost,killed,slow"),
+    Row("forked", 3, FEW),
+    Row("forked+killed", 2, "slow,memory"),
+    Row("bursts+carrier", 2, "lost,killed,slow"),
     Row("unreadable+killed", 10, "carrier,deleted,slow"),
     Row("slow_effects", 5, "lost,killed,slow"),
     Row("many+carrier", 2),
     Row("statement", 7),
     Row("refused_a_while+killed", 5, "lost,carrier,slow"),
-    Row("tickets", 25, MANY),
+    Row("tickets", 20, MANY),
     Row("tickets+keys+kdc", 10, "killed,memory"),
 ]
 
