@@ -11,6 +11,7 @@ import units
 HERE = os.path.dirname(os.path.abspath(__file__))
 SOURCES = os.path.dirname(HERE)
 OPTION = re.compile(r"--[a-z][a-z-]+")
+MAIN = {"sender": "sender_main.c", "receiver": "receiver.c"}
 OF_BOTH = {"sender": ("carrier.h", "kerberos.h"), "receiver": ("carrier.h", "kerberos.h", "effects.h")}
 METRIC = re.compile(r"\bkrbrelay_(?:sender|receiver)_\w+")
 
@@ -22,7 +23,7 @@ def text_of(name):
 
 def usage_options(program):
     """The options that a program's usage names."""
-    texts = "".join(text_of(name) for name in (f"{program}.c", *OF_BOTH[program]))
+    texts = "".join(text_of(name) for name in (MAIN[program], *OF_BOTH[program]))
     return {it for line in re.findall(r'^ +"(  --.*?)\\n"', texts, re.M) for it in OPTION.findall(line)}
 
 
