@@ -106,6 +106,7 @@ struct shard {
     int is_last;                   /* it ends with this frame */
     struct reached alone;          /* frames of this list up to this offset are taken alone */
     struct done_parts done_parts;
+    unsigned refused;              /* refusals since something was stored */
     size_t ended;                  /* so many of them are closed */
     struct list asked;             /* those of which the store is asked, */
     struct list news;              /* and those whose openings this transaction takes */

@@ -15,6 +15,7 @@
 #include <string.h>
 
 #define LONG UINT64_C(1000000000) /* nanoseconds of a transaction, after which what was taken is stored */
+enum { AT_ONCE = 16 };            /* refusals of a text that is to be put aside, without a pause between them */
 
 /* ---- What is stored */
 
@@ -85,7 +86,7 @@ static int note_stored(struct shard *s)
     }
     keep_news(s);
     s->changed.count = s->taken.count = 0;
-    s->done_parts.parts = 0;
+    s->done_parts.parts = s->refused = 0;
     count_stored(s);
     return answer;
 }
@@ -219,7 +220,7 @@ static enum transaction give_up(struct shard *s, enum effect_answer answer, int 
         s->store->rollback(s->store);
     if (answer == EFFECT_FAULT)
         return alone || s->store->refusal(s->store) == NULL ? TRANSACTION_FAULT : TRANSACTION_AGAIN;
-    if (answer == EFFECT_REFUSED && effects_may_put_aside())
+    if (answer == EFFECT_REFUSED && effects_may_put_aside() && s->refused++ < AT_ONCE)
         return TRANSACTION_AGAIN;
     return alone || is_first ? TRANSACTION_HELD : TRANSACTION_AGAIN;
 }

@@ -137,9 +137,9 @@ TICKET_EDITS = {
 }
 
 
-def write(name, sources, folder):
+def write(name, sources, folder, edits=None):
     """Writes a copy of the sources with the bug. The text has to stand there once."""
-    path, old, new = (EDITS | TICKET_EDITS)[name]
+    path, old, new = (edits or EDITS | TICKET_EDITS)[name]
     shutil.copytree(sources, folder, ignore=shutil.ignore_patterns("out"))
     path = places.place_of(path, folder)
     with open(path, encoding="utf-8") as file:

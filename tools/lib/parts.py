@@ -130,6 +130,7 @@ PARTS = [
     Part("pytest carrier/tests/test_effects.py", 10, (PYTEST, "rt", COMPILER, MAKE, SQLITE), LIBRARY.command, over=()),
     Part("pytest carrier/tests/test_left.py", 5, (PYTEST, "rt", COMPILER, CRYPTOGRAPHY, MAKE, SQLITE), LIBRARY.command, over=()),
     Part("pytest carrier/tests/test_simulation.py", 10, (PYTEST, "rt", COMPILER, MAKE), LIBRARY.command, over=()),
+    Part("pytest carrier/tests/test_simulation_shipped.py", 10, (PYTEST, "rt", COMPILER, MAKE, SQLITE), LIBRARY.command, over=()),
     Part("pytest carrier/tests/test_simulation_model.py", 2, (PYTEST, "rt", COMPILER, MAKE), LIBRARY.command, over=()),
     Part("pytest tests/test_job_check.py", 1, (PYTEST, CRYPTOGRAPHY), over=()),
     Part("tests/vector_tables.py --check", 1, over=()),

@@ -1,0 +1,207 @@
+/* The shipped programs: a sender's round and a shard's turn are steps, and what they would wait is when the next one is. */
+#include "world.h"
+#include "clock.h"
+#include "effects.h"
+#include "sender.h"
+#include "serving.h"
+
+#include <stdio.h>
+#include <stdlib.h>
+#include <string.h>
+
+enum {
+    TRIES = 3, BATCH = 64, LONG_BATCH = 200, WAITING = 100, RESTARTED = 2000,
+    LIFE = 5, LONG_LIFE = 86400, SKEW = 600, LONG_SKEW = 86400 /* seconds */
+};
+
+static struct sender senders[SENDERS];
+static struct served receivers[RECEIVERS];
+static int has_opened[RECEIVERS];
+static struct shard_options shards;
+static char store[PATHS], sessions_path[PATHS];
+
+/* ---- The file of sessions */
+
+void ends_write_sessions(void)
+{
+    char path[PATHS + 4];
+    unsigned i, all = world.shown > 0 ? world.shown : world.names;
+    FILE *to;
+    (void)snprintf(path, sizeof path, "%s.new", sessions_path);
+    to = fopen(path, "w");
+    if (to == NULL)
+        exit(2);
+    for (i = 0; i < all && !is_stream(i); i++)
+        (void)fprintf(to, "s%u %u 17 priv 01%030x 1 10.0.0.1 10.0.0.2 %02x%030x\n", i, world.name[i].shard, i + 1,
+                      i % 100 + 101, i + 2);
+    for (i = 0; i < world.others; i++)
+        (void)fprintf(to, "other%u 0 17 priv aa%030x 1 10.0.0.1 10.0.0.2 ab%030x\n", i, i, i);
+    if (fclose(to) != 0 || rename(path, sessions_path) != 0)
+        exit(2);
+}
+
+void ends_use_sessions(void)
+{
+    struct sessions *file = sessions_read(sessions_path);
+    if (file != NULL)
+        serving_use(file);
+    sessions_forget(file);
+}
+
+/* Streams are in all shards. */
+static struct kerberos_options kerberos(void)
+{
+    return (struct kerberos_options){ .keytab = has(KIND_TICKETS) ? "keytab" : NULL, .client = "sender",
+                                      .service = "receiver", .allowed = "clients", .etype = 18, .shards = SHARDS };
+}
+
+/* ---- A sender */
+
+static struct sender *sender_of(int party)
+{
+    return &senders[party - SENDER];
+}
+
+static void start_sender(int party)
+{
+    const struct box *of = &world.boxes[has(KIND_FORKED) && party == SENDER_2];
+    struct sender *it = sender_of(party);
+    memset(it, 0, sizeof *it);
+    it->options = (struct options){ .carrier = { .where = "memory", .replicas = 1 }, .kerberos = kerberos(),
+                                    .life = has(KIND_TICKETS) ? LIFE : LONG_LIFE, .sessions = sessions_path,
+                                    .outbox = of->path, .batch = 1, .most_waiting = has(KIND_BOUNDED) ? WAITING : 0 };
+    world.is_up[party] = sender_open(it) == 0;
+}
+
+static void step_sender(int party)
+{
+    enum outbox_answer answer = OUTBOX_OK;
+    if (!sender_step(sender_of(party), &answer) && answer >= 0)
+        return;
+    world.is_up[party] = 0;
+    world.was_taken[party - SENDER] = answer == OUTBOX_TAKEN;
+}
+
+static void stop_sender(int party)
+{
+    sender_close(sender_of(party));
+}
+
+/* ---- A receiver, which serves one shard */
+
+static void start_receiver(int party)
+{
+    unsigned i = (unsigned)(party - RECEIVER);
+    has_opened[i] = 0;
+    serving_prepare(&receivers[i], i % SHARDS);
+    world.is_up[party] = has_opened[i] = serving_open(&receivers[i]) == 0;
+}
+
+static void step_receiver(int party)
+{
+    (void)serving_turn(&receivers[party - RECEIVER]); /* none of them is asked to end */
+}
+
+static void stop_receiver(int party)
+{
+    if (has_opened[party - RECEIVER])
+        serving_finish(&receivers[party - RECEIVER]);
+    shard_stop(&receivers[party - RECEIVER].shard);
+}
+
+/* ---- Any program */
+
+/* A program that ends by itself, or since it is asked to, leaves nothing. */
+static void end_cleanly(int party)
+{
+    uint64_t took;
+    if (!party_run(party, is_sender(party) ? stop_sender : stop_receiver, &took) && party_bytes(party) > 0)
+        rule_broken(RULE_LEAKS, "program %d ends with %lu bytes", party, (unsigned long)party_bytes(party));
+    party_end(party);
+}
+
+/* One that ended by itself is started again after a second, as its unit says; another sender's outbox is left to it. */
+static void note_end(int party)
+{
+    end_cleanly(party);
+    world.ends++;
+    if (!is_sender(party) || !world.was_taken[party - SENDER])
+        return;
+    world.was_taken[party - SENDER] = 0;
+    if (!has(KIND_TAKEN_OVER))
+        rule_broken(RULE_ENDED, "the sender says that another one has taken the outbox over, and there is none");
+    world.may_run[party] = !has(KIND_TAKEN_OVER);
+}
+
+void ends_step(int party)
+{
+    static void (*const starts[])(int) = { start_receiver, start_sender };
+    static void (*const steps[])(int) = { step_receiver, step_sender };
+    int was_up = world.is_up[party];
+    uint64_t took = 0;
+    world.steps++;
+    if (party_run(party, (was_up ? steps : starts)[is_sender(party)], &took)) {
+        world.is_up[party] = 0;
+        world.kills++;
+        took += drawn(RESTARTED) * MILLISECOND;
+    } else if (!world.is_up[party]) {
+        note_end(party);
+        took += SECOND;
+    }
+    world.resumes[party] = now + took;
+}
+
+void ends_stop(int party, int is_clean, uint64_t until)
+{
+    if (world.is_up[party] && is_clean)
+        end_cleanly(party);
+    else
+        party_end(party);
+    world.is_up[party] = 0;
+    world.resumes[party] = until;
+    world.kills++;
+}
+
+uint64_t ends_next(void)
+{
+    uint64_t at = UINT64_MAX;
+    int i;
+    for (i = SENDER; i < PARTIES; i++)
+        if (world.may_run[i] && world.resumes[i] < at)
+            at = world.resumes[i];
+    return at;
+}
+
+/* With an effect that is refused one receiver alone serves a shard, so that its refusals are counted. */
+static int has_effects(void)
+{
+    return has(KIND_REFUSED_A_WHILE) || has(KIND_REFUSED) || has(KIND_REFUSED_MANY) || has(KIND_SLOW_EFFECTS);
+}
+
+static void choose_options(void)
+{
+    path_of(store, has(KIND_MOVED) ? "store.db" : "store-%.db");
+    memmove(store + strlen("sqlite:"), store, strlen(store) + 1);
+    memcpy(store, "sqlite:", strlen("sqlite:"));
+    shards = (struct shard_options){ .store = store, .carrier = { .where = "memory", .replicas = 1 },
+                                     .kerberos = kerberos(), .batch = has(KIND_SLOW_EFFECTS) ? LONG_BATCH : BATCH,
+                                     .skew = has(KIND_CLOCK) ? SKEW : LONG_SKEW };
+    (void)effects_choose(NULL, has(KIND_ASIDE) ? TRIES : 0); /* it only fails for a word */
+}
+
+void ends_begin(void)
+{
+    int i;
+    path_of(sessions_path, "sessions");
+    choose_options();
+    for (i = SENDER; i < PARTIES; i++)
+        world.may_run[i] = i != SENDER_2 && !(has_effects() && i == RECEIVER + SHARDS);
+    world.shown = has(KIND_LATER) ? world.names - 1 : 0;
+    happened(KIND_LATER, has(KIND_LATER) != 0);
+    ends_write_sessions();
+    if (serving_begin(&shards, sessions_empty(), 1) != 0)
+        exit(2);
+    ends_use_sessions();
+    world.shown = 0;
+    ends_write_sessions();
+}

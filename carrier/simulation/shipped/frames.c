@@ -1,0 +1,314 @@
+/* The carrier, in memory, as JetStream is: shards with all that was published, and of each session's receipts the last. */
+#include "carrier.h"
+#include "clock.h"
+#include "kinds.h"
+#include "ports.h"
+
+#include <stdlib.h>
+#include <string.h>
+
+#pragma GCC diagnostic ignored "-Wunused-parameter"
+
+enum { CONFIRMED_WITHIN = 50, WAIT = 10, FAIR_WAIT = 50, HAPPENS_ALL_THE_SAME = 4 };
+
+/* A frame in a shard, or a receipt, whose `turn` is above that of those before. */
+struct item { char session[CARRIER_NAME]; uint8_t *bytes; size_t len; unsigned shard; uint64_t turn; };
+struct items { struct item *at; size_t count, room; };
+struct shard_of_frames { struct items items; uint64_t incarnation; };
+static struct shard_of_frames shards[SHARDS];
+static struct items receipts;
+static uint64_t turns;
+static unsigned long published[MOST_NAMES + 1];
+
+/* A confirmation that is under way. */
+struct answer { uint64_t due; struct confirmed it; struct answer *next; };
+
+/* One end's connection. */
+struct connection {
+    struct carrier base;
+    struct answer *answers;
+    unsigned shard;
+    uint64_t after, incarnation; /* it reads that list of the shard from there on */
+    uint64_t heard;              /* receipts up to this turn */
+};
+
+/* ---- What the world has of it */
+
+/* What stands in a list is nobody's memory that may be killed. */
+static struct item *put(struct items *to, const char *session, const uint8_t *bytes, size_t len)
+{
+    int before = running;
+    struct item *it;
+    running = WORLD;
+    if (to->count == to->room) {
+        to->room = 2 * to->room + 64;
+        to->at = realloc(to->at, to->room * sizeof *to->at);
+    }
+    it = &to->at[to->count++];
+    *it = (struct item){ .bytes = malloc(len + 1), .len = len };
+    memcpy(it->session, session, strlen(session) + 1);
+    memcpy(it->bytes, bytes, len);
+    running = before;
+    return it;
+}
+
+static void cut(struct items *it, size_t count)
+{
+    while (it->count > 0 && count-- > 0)
+        free(it->at[--it->count].bytes);
+}
+
+void frames_begin(void)
+{
+    unsigned i;
+    for (i = 0; i < SHARDS; i++)
+        shards[i].incarnation = 1 + drawn(1000000);
+}
+
+void frames_delete(unsigned shard)
+{
+    cut(&shards[shard].items, shards[shard].items.count);
+    shards[shard].incarnation++;
+    happened(KIND_DELETED, 1);
+}
+
+void frames_cut(unsigned shard, unsigned count)
+{
+    cut(&shards[shard].items, count);
+    happened(KIND_CUT, 1);
+}
+
+void frames_purge(void)
+{
+    cut(&receipts, receipts.count);
+    happened(KIND_PURGED, 1);
+}
+
+int frames_have_receipt(unsigned name)
+{
+    size_t i;
+    for (i = 0; i < receipts.count; i++)
+        if (name_of(receipts.at[i].session) == name)
+            return 1;
+    return 0;
+}
+
+unsigned long frames_published(unsigned name)
+{
+    return published[name];
+}
+
+/* ---- Faults */
+
+void port_is_killed(void)
+{
+    if (running == WORLD || faults.killed == 0 || drawn(100000) >= faults.killed)
+        return;
+    happened(KIND_KILLED, 1);
+    party_killed();
+}
+
+void port_is_slow(void)
+{
+    if (!is_drawn(faults.slow))
+        return;
+    happened(KIND_SLOW, 1);
+    spend(drawn(3000) * MILLISECOND);
+}
+
+/* A fault of this kind at this moment: what doesn't arrive now isn't the sender's fault. */
+static int is_struck(unsigned chance_of_it, enum kind kind)
+{
+    if (!is_drawn(chance_of_it))
+        return 0;
+    happened(kind, 1);
+    faults.carrier_at = now;
+    return 1;
+}
+
+static int fails(void)
+{
+    port_is_killed();
+    port_is_slow();
+    return is_struck(faults.carrier, KIND_CARRIER);
+}
+
+/* ---- The port, of who publishes */
+
+static int incarnation_of(struct carrier *base, unsigned shard, uint64_t *incarnation, uint64_t *end)
+{
+    struct connection *c = (struct connection *)base;
+    if (fails())
+        return CARRIER_FAULT;
+    c->incarnation = *incarnation = shards[shard].incarnation;
+    *end = shards[shard].items.count;
+    return 0;
+}
+
+static int make(struct carrier *base, unsigned shard, uint64_t *incarnation)
+{
+    *incarnation = shards[shard].incarnation;
+    return 0;
+}
+
+/* Confirmations come in the order of what they are of, as those of a stream do. */
+static int confirm(struct connection *c, unsigned shard, uint32_t tag, uint64_t number)
+{
+    struct answer *it = calloc(1, sizeof *it), **end = &c->answers;
+    if (it == NULL)
+        return CARRIER_FAULT;
+    it->due = moment() + drawn(CONFIRMED_WITHIN) * MILLISECOND;
+    it->it = (struct confirmed){ tag, number, shards[shard].items.count };
+    for (; *end != NULL; end = &(*end)->next)
+        it->due = (*end)->due > it->due ? (*end)->due : it->due;
+    *end = it;
+    return 0;
+}
+
+static int publish(struct carrier *base, unsigned shard, const char *session, uint32_t tag, uint64_t number,
+                   const uint8_t *frame, size_t len)
+{
+    struct items *to = &shards[shard].items;
+    published[name_of(session)]++;
+    if (fails()) {
+        if (drawn(HAPPENS_ALL_THE_SAME) == 0)
+            (void)put(to, session, frame, len);
+        return drawn(2) == 0 ? 0 : CARRIER_FAULT;
+    }
+    if (is_struck(faults.lost, KIND_LOST))
+        return 0;
+    (void)put(to, session, frame, len);
+    if (is_struck(faults.twice, KIND_LOST))
+        (void)put(to, session, frame, len);
+    return is_struck(faults.lost, KIND_LOST) ? 0 : confirm((struct connection *)base, shard, tag, number);
+}
+
+static int confirmed(struct carrier *base, struct confirmed *list, size_t room, int time)
+{
+    struct answer **at = &((struct connection *)base)->answers;
+    size_t count = 0;
+    if (time > 0)
+        pause_milliseconds(1);
+    port_is_killed();
+    while (*at != NULL && count < room && (*at)->due <= moment()) {
+        struct answer *it = *at;
+        list[count++] = it->it;
+        *at = it->next;
+        free(it);
+    }
+    return (int)count;
+}
+
+/* ---- Of who reads */
+
+static void seek(struct carrier *base, unsigned shard, uint64_t offset)
+{
+    struct connection *c = (struct connection *)base;
+    c->shard = shard;
+    c->after = offset;
+}
+
+static int fetch(struct carrier *base, struct carried *list, size_t room, int time)
+{
+    struct connection *c = (struct connection *)base;
+    const struct shard_of_frames *from = &shards[c->shard];
+    size_t count = 0;
+    if (fails())
+        return CARRIER_FAULT;
+    if (c->incarnation != from->incarnation || c->after > from->items.count)
+        return CARRIER_CHANGED;
+    while (count < room && c->after < from->items.count) {
+        const struct item *it = &from->items.at[c->after++];
+        memcpy(list[count].session, it->session, sizeof it->session);
+        list[count].offset = c->after;
+        list[count].frame = it->bytes;
+        list[count++].len = it->len;
+    }
+    if (count == 0 && time > 0)
+        pause_milliseconds(faults.is_over ? FAIR_WAIT : WAIT);
+    return (int)count;
+}
+
+static int behind(struct carrier *base, uint64_t *frames)
+{
+    const struct connection *c = (const struct connection *)base;
+    size_t count = shards[c->shard].items.count;
+    *frames = count > c->after ? count - c->after : 0;
+    return 0;
+}
+
+/* ---- Receipts: of a session of a shard the last one is kept */
+
+static void keep_receipt(unsigned shard, const struct carried *receipt)
+{
+    struct item *kept;
+    size_t i = 0;
+    while (i < receipts.count && (receipts.at[i].shard != shard || strcmp(receipts.at[i].session, receipt->session) != 0))
+        i++;
+    if (i < receipts.count) {
+        free(receipts.at[i].bytes);
+        memmove(&receipts.at[i], &receipts.at[i + 1], (--receipts.count - i) * sizeof *receipts.at);
+    }
+    kept = put(&receipts, receipt->session, receipt->frame, receipt->len);
+    kept->shard = shard;
+    kept->turn = ++turns;
+}
+
+static int acknowledge(struct carrier *base, unsigned shard, const struct carried *list, size_t count)
+{
+    size_t i;
+    if (fails())
+        return CARRIER_FAULT;
+    for (i = 0; i < count; i++)
+        if (!is_struck(faults.lost, KIND_LOST))
+            keep_receipt(shard, &list[i]);
+    return 0;
+}
+
+static int give_receipts(struct carrier *base, carrier_receipt *take, void *given)
+{
+    struct connection *c = (struct connection *)base;
+    size_t i;
+    if (fails())
+        return CARRIER_FAULT;
+    for (i = 0; i < receipts.count; i++) {
+        const struct item *it = &receipts.at[i];
+        if (it->turn <= c->heard)
+            continue;
+        c->heard = it->turn;
+        take(given, it->session, it->bytes, it->len);
+    }
+    return 0;
+}
+
+static void forget_receipt(struct carrier *base, unsigned shard, const char *session)
+{
+}
+
+/* ---- */
+
+static int never(struct carrier *base)
+{
+    return 0;
+}
+
+static void close_carrier(struct carrier *base)
+{
+    struct connection *c = (struct connection *)base;
+    while (c->answers != NULL) {
+        struct answer *it = c->answers;
+        c->answers = it->next;
+        free(it);
+    }
+    free(c);
+}
+
+struct carrier *carrier_open(const struct carrier_options *options)
+{
+    struct connection *c = calloc(1, sizeof *c);
+    if (c == NULL)
+        return NULL;
+    c->base = (struct carrier){ incarnation_of, make, publish, confirmed, seek, fetch, behind, acknowledge,
+                                give_receipts, forget_receipt, never, never, close_carrier };
+    return &c->base;
+}

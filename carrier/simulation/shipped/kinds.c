@@ -1,0 +1,77 @@
+#include "kinds.h"
+
+#include <stdio.h>
+#include <string.h>
+
+#define KIND_WORD(name, word, text) word,
+#define KIND_TEXT(name, word, text) text,
+static const char *const words_of[] = { KINDS(KIND_WORD) }, *const texts_of[] = { KINDS(KIND_TEXT) };
+
+static unsigned char chosen[KIND_COUNT], now[KIND_COUNT];
+static uint64_t *counts;
+
+int has(enum kind kind)
+{
+    return now[kind];
+}
+
+void kinds_count_at(uint64_t at[KIND_COUNT])
+{
+    counts = at;
+}
+
+void happened(enum kind kind, uint64_t times)
+{
+    counts[kind] += times;
+}
+
+enum kind kind_of(const char *word, unsigned long len)
+{
+    unsigned i = 0;
+    while (i < KIND_COUNT && (strlen(words_of[i]) != len || strncmp(words_of[i], word, len) != 0))
+        i++;
+    return (enum kind)i;
+}
+
+int kinds_choose(const char *words)
+{
+    memset(chosen, 0, sizeof chosen);
+    while (*words != 0) {
+        size_t len = strcspn(words, "+");
+        enum kind kind = kind_of(words, len);
+        if (kind == KIND_COUNT)
+            return 0;
+        chosen[kind] = 1;
+        words += len + (words[len] == '+');
+    }
+    return 1;
+}
+
+void kinds_begin(void)
+{
+    memcpy(now, chosen, sizeof now);
+}
+
+void kinds_add(enum kind kind)
+{
+    now[kind] = 1;
+}
+
+const char *kinds_profile(void)
+{
+    static char text[1024];
+    size_t len = 0;
+    unsigned i;
+    text[0] = 0;
+    for (i = 0; i < KIND_COUNT; i++)
+        if (now[i])
+            len += (size_t)snprintf(text + len, sizeof text - len, "%s%s", len > 0 ? "+" : "", words_of[i]);
+    return text;
+}
+
+void kinds_print(void)
+{
+    unsigned i;
+    for (i = 0; i < KIND_COUNT; i++)
+        printf("%llu %s\n", (unsigned long long)counts[i], texts_of[i]);
+}

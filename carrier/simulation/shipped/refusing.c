@@ -1,0 +1,86 @@
+/* The effect of a text, in front of that of effect.c (--wrap): slow, or refused as a database refuses. */
+#include "effects.h"
+#include "kinds.h"
+#include "ports.h"
+
+#include <stdlib.h>
+#include <string.h>
+
+#define WATCHDOG (60 * SECOND) /* of systemd: a step that takes longer is ended */
+
+int __real_take_effect(struct store *store, const struct arrived *it);
+int __wrap_take_effect(struct store *store, const struct arrived *it);
+
+/* Two statements that no database takes: a constraint that a row violates, and a function's error. */
+static const char constraint[] = "INSERT INTO aside (session) VALUES (NULL)";
+static const char error[] = "INSERT INTO aside (session, number, part, text, client, stream, reason)"
+                            " SELECT 's', 0, 0, x'', '', '', json_extract('x{', '$')";
+
+static struct poison poisons[MOST_POISONS];
+static unsigned count;
+static unsigned short runs[MOST_NAMES][MOST_TEXTS];
+static unsigned long watchdogs;
+
+void effects_poison(struct poison it)
+{
+    if (count < MOST_POISONS)
+        poisons[count++] = it;
+}
+
+const struct poison *effects_first_poison(void)
+{
+    return count > 0 ? &poisons[0] : NULL;
+}
+
+unsigned effects_run(unsigned name, unsigned serial)
+{
+    return runs[name][serial];
+}
+
+unsigned long effects_watchdogs(void)
+{
+    return watchdogs;
+}
+
+static enum kind kind_of_poison(void)
+{
+    return has(KIND_REFUSED_MANY) ? KIND_REFUSED_MANY : has(KIND_REFUSED) ? KIND_REFUSED : KIND_REFUSED_A_WHILE;
+}
+
+static const struct poison *poison_of(unsigned name, unsigned serial)
+{
+    unsigned i;
+    for (i = 0; i < count; i++)
+        if (poisons[i].name == name && poisons[i].serial == serial && now < poisons[i].until)
+            return &poisons[i];
+    return NULL;
+}
+
+static void be_slow(void)
+{
+    if (faults.slow_effects == 0)
+        return;
+    happened(KIND_SLOW_EFFECTS, 1);
+    spend(faults.slow_effects * MILLISECOND);
+    if (moment() - now <= WATCHDOG)
+        return;
+    watchdogs++;
+    party_killed();
+}
+
+int __wrap_take_effect(struct store *store, const struct arrived *it)
+{
+    unsigned name = name_of(it->stream[0] != 0 ? it->stream : it->session);
+    unsigned serial = it->len == 2 ? (unsigned)it->text[0] << 8 | it->text[1] : MOST_TEXTS;
+    const struct poison *poison = NULL;
+    if (name < MOST_NAMES && serial < MOST_TEXTS) {
+        runs[name][serial] = (unsigned short)(runs[name][serial] + (runs[name][serial] < UINT16_MAX));
+        poison = poison_of(name, serial);
+    }
+    be_slow();
+    if (poison == NULL)
+        return __real_take_effect(store, it);
+    happened(kind_of_poison(), 1);
+    (void)store_run(store, poison->is_error ? error : constraint, NULL, 0); /* the store refuses both */
+    return -1;
+}

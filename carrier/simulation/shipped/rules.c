@@ -1,0 +1,323 @@
+/* What has to hold of a run: of each effect, each second, and at the end. */
+#include "world.h"
+#include "statements.h"
+
+#include <stdarg.h>
+#include <stdio.h>
+#include <stdlib.h>
+#include <string.h>
+
+enum {
+    TEXT = 160, SQL = 220,
+    FRAMES_OF_A_TEXT = 30, FRAMES_OF_A_SECOND = 40, FRAMES = 200, /* so many may be published at most */
+    EFFECTS = 4, EFFECTS_OF_A_FAULT = 2,                          /* so often may an effect be run */
+    CALLS = 40000, SPINNING = 10,                                 /* of SQL in a second; seconds of a run that is ended */
+    UNHEALTHY = 12, UNSEEN = 5,                                   /* seconds */
+    LOOKED_EACH = 5, TRIES = 3
+};
+#define MOST_BYTES ((size_t)64 << 20)
+
+#define RULE_TEXT(name) #name,
+static const char *const rule_texts[] = { RULES(RULE_TEXT) };
+
+static char broken[RULE_COUNT][TEXT];
+static sqlite3_int64 last_effect[SHARDS], last_aside[SHARDS];
+static unsigned unseen, spinning;
+static unsigned long calls_before;
+
+void rule_broken(enum rule rule, const char *form, ...)
+{
+    va_list values;
+    int len;
+    if (broken[rule][0] != 0)
+        return;
+    len = snprintf(broken[rule], TEXT, "%s at %llu s: ", rule_texts[rule], (unsigned long long)world.second);
+    va_start(values, form);
+    (void)vsnprintf(broken[rule] + len, TEXT - (size_t)len, form, values); /* a long one is cut */
+    va_end(values);
+}
+
+unsigned rules_print(const char *before)
+{
+    unsigned i, count = 0;
+    for (i = 0; i < RULE_COUNT; i++)
+        if (broken[i][0] != 0) {
+            count++;
+            printf("%s%s\n", before, broken[i]);
+        }
+    return count;
+}
+
+/* ---- What took effect */
+
+/* Texts of two outboxes have an order in each alone. */
+static int has_order(void)
+{
+    return !world.boxes[1].is_used;
+}
+
+static void see_effect(struct name *it, unsigned name, unsigned serial)
+{
+    if (has_order() && serial < it->last)
+        rule_broken(RULE_OVERTAKEN, "s%u text %u took effect after text %u", name, serial, it->last);
+    if (it->is_forbidden && serial >= it->forbidden_from)
+        rule_broken(RULE_LEFT_OUT, "s%u text %u of a restored outbox took effect, %s", name, serial,
+                    it->was_stopped ? "after the session was stopped" : "and nobody has said that the outbox is older");
+    if (serial > it->last)
+        it->last = serial;
+}
+
+static void see(enum outcome outcome, char **values)
+{
+    unsigned name = name_of(values[2][0] != 0 ? values[2] : values[1]);
+    unsigned serial = (unsigned)strtoul(values[3], NULL, 16);
+    struct name *it = &world.name[name < world.names ? name : 0];
+    if (name >= world.names || strlen(values[3]) != 4 || serial >= it->serials) {
+        rule_broken(RULE_CHANGED, "session %s has an effect of no text", values[1]);
+        return;
+    }
+    if (it->outcome[serial] != NOTHING_YET)
+        rule_broken(RULE_DOUBLED, "s%u text %u took effect twice", name, serial);
+    it->outcome[serial] = (unsigned char)outcome;
+    happened(KIND_ASIDE, outcome == PUT_ASIDE);
+    if (outcome == PUT_ASIDE && effects_run(name, serial) < TRIES)
+        rule_broken(RULE_ASIDE_EARLY, "s%u text %u was put aside after %u tries", name, serial, effects_run(name, serial));
+    if (outcome == TOOK_EFFECT)
+        see_effect(it, name, serial);
+}
+
+static int take_effects(void *given, int count, char **values, char **names)
+{
+    (void)count;
+    (void)names;
+    *(sqlite3_int64 *)given = atoll(values[0]);
+    see(TOOK_EFFECT, values);
+    return 0;
+}
+
+static int take_asides(void *given, int count, char **values, char **names)
+{
+    (void)count;
+    (void)names;
+    *(sqlite3_int64 *)given = atoll(values[0]);
+    see(PUT_ASIDE, values);
+    return 0;
+}
+
+static void look_at_table(sqlite3 *db, const char *table, sqlite3_int64 *last, each_row *take)
+{
+    char sql[SQL];
+    (void)snprintf(sql, sizeof sql, "SELECT id, session, stream, hex(text) FROM %s WHERE id > %lld ORDER BY id", table,
+                   (long long)*last);
+    (void)sqlite3_exec(db, sql, take, last, NULL); /* the table may not be there yet */
+}
+
+/* Lines move between shards of one file alone. */
+static void look_at_effects(void)
+{
+    char file[TEXT], path[PATHS];
+    unsigned i;
+    for (i = 0; i < (has(KIND_MOVED) ? 1u : (unsigned)SHARDS); i++) {
+        sqlite3 *db = NULL;
+        (void)snprintf(file, sizeof file, has(KIND_MOVED) ? "store.db" : "store-%u.db", i);
+        path_of(path, file);
+        if (sqlite3_open_v2(path, &db, SQLITE_OPEN_READONLY, NULL) == SQLITE_OK) {
+            look_at_table(db, "aside", &last_aside[i], take_asides);
+            look_at_table(db, "effect", &last_effect[i], take_effects);
+        }
+        (void)sqlite3_close(db); /* no statement is left */
+    }
+}
+
+/* ---- What an outbox has, and says */
+
+static struct box *looked_at;
+
+/* Of a name rising texts have rising rows. */
+static int take_text(void *given, int count, char **values, char **names)
+{
+    unsigned name = name_of(values[0]), low = 0, high = name < world.names ? looked_at->count[name] : 0;
+    sqlite3_int64 id = atoll(values[1]);
+    (void)given;
+    (void)count;
+    (void)names;
+    while (low < high) {
+        unsigned middle = (low + high) / 2;
+        if (looked_at->marks[name][middle].id < id)
+            low = middle + 1;
+        else
+            high = middle;
+    }
+    if (name < world.names && low < looked_at->count[name] && looked_at->marks[name][low].id == id)
+        world.name[name].waits[looked_at->marks[name][low].serial] = 1;
+    return 0;
+}
+
+static int take_said(void *given, int count, char **values, char **names)
+{
+    unsigned name = name_of(values[0]);
+    struct name *it = &world.name[name < world.names ? name : 0];
+    (void)given;
+    (void)count;
+    (void)names;
+    if (name >= world.names)
+        return 0;
+    it->said |= values[1] != NULL ? SAID_TO_BE_STOPPED : SAID_TO_STAND;
+    if (values[1] != NULL && (strstr(values[1], "this outbox") != NULL || strstr(values[1], "older") != NULL))
+        it->was_stopped = 1;
+    return 0;
+}
+
+static void look_at_said(struct box *it)
+{
+    (void)box_run(it, "SELECT session, reason FROM stopped", take_said, NULL); /* they can be read */
+    (void)box_run(it, "SELECT name, NULL FROM session WHERE stands != 0", take_said, NULL);
+}
+
+/* Each text is in its outbox, or it had its outcome. Answers how many of them had none. */
+static unsigned look_at_texts(const struct box *of, unsigned name)
+{
+    const struct name *it = &world.name[name];
+    unsigned i, undone = 0;
+    for (i = 0; i < of->count[name]; i++) {
+        unsigned serial = of->marks[name][i].serial;
+        int is_done = it->outcome[serial] != NOTHING_YET;
+        if (!is_done && !it->waits[serial])
+            rule_broken(RULE_LOST, "s%u text %u is in no outbox and had no effect", name, serial);
+        if (is_done && undone > 0 && has_order() && !it->has_advanced)
+            rule_broken(RULE_OVERTAKEN, "s%u text %u had its outcome before an older one", name, serial);
+        undone += !is_done;
+    }
+    return undone;
+}
+
+/* At the end all is done, or the outbox says why not; soon after the faults, if nothing was done to the session. */
+static void look_at_undone(unsigned name, unsigned undone, int is_end)
+{
+    const struct name *it = &world.name[name];
+    if (undone > 0 && world.second == DISTURBED + PUNCTUAL && !it->is_struck)
+        rule_broken(RULE_LATE, "s%u has %u texts without effect after %d fair seconds, and nothing was done to it", name,
+                    undone, PUNCTUAL);
+    if (undone == 0 || !is_end)
+        return;
+    if (it->said == 0)
+        rule_broken(RULE_UNTOLD, "s%u has %u texts without effect, and the outbox says nothing of it", name, undone);
+    else if (!it->is_struck)
+        rule_broken(RULE_STANDS, "s%u has %u texts without effect, and nothing was done to it: the outbox says that it %s",
+                    name, undone, it->said & SAID_TO_BE_STOPPED ? "is stopped" : "stands");
+}
+
+/* The outbox is looked at before the store: what leaves it had its effect by then. */
+static void look_at_box(struct box *it, int is_end)
+{
+    unsigned name;
+    for (name = 0; name < world.names; name++)
+        memset(world.name[name].waits, 0, sizeof world.name[name].waits);
+    looked_at = it;
+    (void)box_run(it, "SELECT session, id FROM text UNION ALL SELECT session, text FROM sealed", take_text, NULL);
+    look_at_effects();
+    for (name = 0; name < world.names; name++)
+        look_at_undone(name, look_at_texts(it, name), is_end);
+}
+
+static void look_at_boxes(int with_texts, int is_end)
+{
+    unsigned i;
+    for (i = 0; i < world.names; i++)
+        world.name[i].said = 0;
+    for (i = 0; i < BOXES; i++)
+        if (world.boxes[i].is_used)
+            look_at_said(&world.boxes[i]);
+    for (i = 0; i < BOXES && with_texts; i++)
+        if (world.boxes[i].is_used)
+            look_at_box(&world.boxes[i], is_end && i == 0);
+}
+
+/* ---- What it costs */
+
+static void look_at_frames(unsigned name)
+{
+    unsigned long most = (unsigned long)FRAMES_OF_A_TEXT * world.name[name].serials
+                         + FRAMES_OF_A_SECOND * world.second + FRAMES;
+    if (frames_published(name) <= most)
+        return;
+    world.is_flooded = 1;
+    rule_broken(RULE_FLOOD, "s%u: %lu frames were published for %u texts", name, frames_published(name),
+                world.name[name].serials);
+}
+
+static void look_at_calls(void)
+{
+    unsigned long calls = statements_calls() - calls_before;
+    calls_before += calls;
+    if (calls <= CALLS)
+        return;
+    rule_broken(RULE_SPINS, "%lu calls of SQL in a second", calls);
+    world.is_flooded |= ++spinning > SPINNING;
+}
+
+/* Other texts than the refused one are run again for a fault, or where a program ended, and not for the refused one. */
+static void look_at_runs(unsigned name)
+{
+    const struct poison *poison = effects_first_poison();
+    unsigned long causes = faults.of_stores + world.kills + world.ends;
+    unsigned long most = EFFECTS + EFFECTS_OF_A_FAULT * (has(KIND_SLOW_EFFECTS) ? causes - world.kills : causes);
+    unsigned i;
+    if (poison != NULL && poison->name == name)
+        return;
+    for (i = 0; i < world.name[name].serials; i++)
+        if (effects_run(name, i) > most)
+            rule_broken(RULE_REPEATED, "the effect of s%u text %u was run %u times, with %lu kills and faults, %lu by the"
+                        " watchdog", name, i, effects_run(name, i), causes, effects_watchdogs());
+}
+
+/* ---- What is said of it */
+
+static void look_at_health(void)
+{
+    int has_had_time = now - faults.carrier_at > 30 * SECOND && now - world.resumes[SENDER] < SECOND;
+    if (said.nothing_confirmed > 0)
+        rule_broken(RULE_AWAY, "the sender says that nothing is confirmed, by a carrier that works");
+    if (world.is_up[SENDER] && has_had_time && now > said.worked_at + UNHEALTHY * SECOND)
+        rule_broken(RULE_UNHEALTHY, "the sender hasn't been healthy for %d s, by a carrier that works", UNHEALTHY);
+    unseen = world.full > 0 ? unseen + 1 : 0;
+    world.full = 0;
+    if (unseen > UNSEEN && said.waiting < 0.9 * said.bound)
+        rule_broken(RULE_FULL_UNSEEN, "the outbox refuses texts, and waiting_texts is %.0f of %.0f", said.waiting, said.bound);
+}
+
+static void look_at_refused(void)
+{
+    const struct poison *it = effects_first_poison();
+    unsigned runs = it != NULL ? effects_run(it->name, it->serial) : 0;
+    if (it == NULL || it->until != UINT64_MAX || world.name[it->name].outcome[it->serial] != NOTHING_YET || runs <= TRIES)
+        return;
+    if (said.refused == 0)
+        rule_broken(RULE_UNNAMED, "s%u has a text that is refused, and no line of a receiver's log names it", it->name);
+    if (has(KIND_ASIDE))
+        rule_broken(RULE_NOT_ASIDE, "s%u has a text that was refused %u times, and isn't put aside", it->name, runs);
+}
+
+/* ---- */
+
+void rules_second(void)
+{
+    unsigned i;
+    look_at_effects();
+    look_at_boxes(world.second % LOOKED_EACH == 0 || has(KIND_FORKED), 0);
+    for (i = 0; i < world.names; i++) {
+        look_at_frames(i);
+        look_at_runs(i);
+    }
+    look_at_calls();
+    look_at_health();
+    for (i = SENDER; i < PARTIES; i++)
+        if (party_bytes((int)i) > MOST_BYTES)
+            rule_broken(RULE_LEAKS, "program %u has %lu bytes", i, (unsigned long)party_bytes((int)i));
+}
+
+void rules_end(void)
+{
+    look_at_boxes(1, world.second >= DISTURBED + FAIR);
+    look_at_refused();
+}

@@ -1,0 +1,121 @@
+/* What the programs say: their log (--wrap), and the port service.h. */
+#include "kinds.h"
+#include "log.h"
+#include "ports.h"
+#include "service.h"
+
+#include <stdlib.h>
+#include <string.h>
+
+#pragma GCC diagnostic ignored "-Wunused-parameter"
+
+#define PATIENCE (30 * SECOND) /* after a fault of the carrier, for which it may be said to be away */
+
+void __real_log_fields(enum level level, const char *event, const struct field *fields);
+void __wrap_log_fields(enum level level, const char *event, const struct field *fields);
+void __real_log_report(const char *event, const struct field *fields);
+void __wrap_log_report(const char *event, const struct field *fields);
+
+struct said said;
+static unsigned place_of_waiting, place_of_bound;
+
+void said_begin(void)
+{
+    said = (struct said){ .worked_at = now };
+}
+
+static int has_been_faulty(void)
+{
+    return now - faults.carrier_at < PATIENCE;
+}
+
+/* A line names the refused session, unless it says that all of them stand. */
+static int names_refused(enum level level, const struct field *fields)
+{
+    const struct poison *poison = effects_first_poison();
+    const struct field *it;
+    if (poison == NULL || level == LEVEL_INFO || is_sender(running))
+        return 0;
+    for (it = fields; it->kind != FIELD_END; it++)
+        if (it->kind == FIELD_TEXT && strcmp(it->key, "session") == 0 && name_of(it->text) == poison->name)
+            return 1;
+    return 0;
+}
+
+void __wrap_log_fields(enum level level, const char *event, const struct field *fields)
+{
+    said.nothing_confirmed += strcmp(event, "nothing_confirmed") == 0 && !has_been_faulty();
+    said.refused += (unsigned long)names_refused(level, fields);
+    if (getenv("SIMULATION_LOG") != NULL)
+        __real_log_fields(level, event, fields);
+}
+
+void __wrap_log_report(const char *event, const struct field *fields)
+{
+    if (getenv("SIMULATION_LOG") != NULL)
+        __real_log_report(event, fields);
+}
+
+/* ---- service.h */
+
+int service_begin(const struct metric *metrics, unsigned count, const struct metric *sessions, unsigned parts)
+{
+    unsigned i;
+    for (i = 0; i < count && is_sender(running); i++) {
+        if (strcmp(metrics[i].name, "krbrelay_sender_waiting_texts") == 0)
+            place_of_waiting = i;
+        if (strcmp(metrics[i].name, "krbrelay_sender_waiting_texts_limit") == 0)
+            place_of_bound = i;
+    }
+    return 0;
+}
+
+/* Part 0 of a sender is its own. */
+void service_alive(unsigned part, int does_work, const char *labels, const double *values)
+{
+    if (running != SENDER || part != 0)
+        return;
+    if (does_work || has_been_faulty())
+        said.worked_at = now;
+    said.waiting = values[place_of_waiting];
+    said.bound = values[place_of_bound];
+}
+
+int service_listen(const char *where)
+{
+    return 0;
+}
+
+void service_allow(unsigned part, unsigned seconds)
+{
+    (void)part;
+    (void)seconds;
+}
+
+void service_expect(unsigned part)
+{
+}
+
+void service_leave(unsigned part)
+{
+}
+
+void service_name(unsigned part, const char *const *names, size_t count)
+{
+}
+
+void service_tell_ready(void)
+{
+}
+
+void service_tell_alive(void)
+{
+}
+
+void service_tell_end(void)
+{
+}
+
+void service_end(void)
+{
+}

@@ -1,0 +1,108 @@
+/* One run: the names and their texts, the outboxes in which an application puts these, and the programs. */
+#ifndef WORLD_H
+#define WORLD_H
+
+#include "kinds.h"
+#include "ports.h"
+
+#include <sqlite3.h>
+
+enum { DISTURBED = 60, FAIR = 400, PUNCTUAL = 100 }; /* seconds: faults; all has to be done, or told, after them; and soon */
+enum { PATHS = 300, BOXES = 2 };
+
+/* ---- Texts */
+
+/* A text of a name, the serial'th, is the row with this id of an outbox. */
+struct mark { sqlite3_int64 id; unsigned serial; };
+
+/* An outbox, as its application knows it: the texts that it put in, or that were in the copy. */
+struct box {
+    struct mark *marks[MOST_NAMES];
+    unsigned count[MOST_NAMES];
+    sqlite3 *application;
+    char path[PATHS];
+    int is_used;
+};
+
+enum outcome { NOTHING_YET, TOOK_EFFECT, PUT_ASIDE };
+enum { SAID_TO_STAND = 1, SAID_TO_BE_STOPPED = 2 };
+
+struct name {
+    unsigned shard, serials; /* texts of all outboxes have serials below this */
+    unsigned last;           /* the last serial that took effect */
+    unsigned forbidden_from; /* texts of a restored outbox from here on may not take effect, .. */
+    int is_forbidden;        /* .. if the session has to be stopped, since it is older than a receipt */
+    int has_advanced;        /* since the copy that was restored */
+    int was_stopped;
+    int is_struck;           /* something was done to the session itself, so it may stand */
+    unsigned said;           /* what its outbox says */
+    unsigned char outcome[MOST_TEXTS], waits[MOST_TEXTS]; /* waits: it is in an outbox, as was looked last */
+};
+
+struct world {
+    uint64_t seed, second;
+    unsigned names, shown, others; /* so many lines has the file of sessions, of the names (0: all) and of others */
+    struct name name[MOST_NAMES];
+    struct box boxes[BOXES], saved;
+    char folder[PATHS - 40];
+    int may_run[PARTIES], is_up[PARTIES], was_taken[SENDERS];
+    uint64_t resumes[PARTIES];
+    unsigned long steps, kills, ends, full; /* ends: of programs by themselves; full: texts that an outbox refused */
+    int is_flooded;                 /* the run ends, since it would take too long */
+};
+extern struct world world;
+
+/* A path in the run's folder. */
+void path_of(char path[PATHS], const char *file);
+
+/* Whether a name has no line: it is a stream of sessions by tickets. */
+int is_stream(unsigned name);
+
+/* ---- boxes.c */
+
+void box_open(struct box *it);
+void box_close(struct box *it);
+void box_put(struct box *it, unsigned name);
+void box_put_some(struct box *it);
+
+/* Both have the same texts from now on, of which the files are the caller's. */
+void box_copy_marks(struct box *to, const struct box *from);
+void box_copy_file(const struct box *from, const char *path);
+
+/* Whether all that was put in took effect or was put aside. */
+int box_is_done(const struct box *it);
+
+/* Runs statements of its application; rows are passed on. */
+typedef int each_row(void *given, int count, char **values, char **names);
+int box_run(struct box *it, const char *sql, each_row *take, void *given);
+
+/* ---- ends.c: the shipped programs */
+
+void ends_begin(void);
+void ends_step(int party);
+void ends_stop(int party, int is_clean, uint64_t until);
+void ends_write_sessions(void);
+void ends_use_sessions(void); /* receivers use the file as it is now */
+uint64_t ends_next(void);
+
+/* ---- events.c: what happens in a second that is disturbed; the world is fair; what a copy of an outbox knew */
+
+void events_second(void);
+void events_end(void);
+
+/* ---- rules.c */
+
+#define RULES(X) \
+    X(DOUBLED) X(OVERTAKEN) X(CHANGED) X(LOST) X(LEFT_OUT) X(UNTOLD) X(STANDS) X(LATE) X(FLOOD) X(SPINS) X(REPEATED) X(AWAY) \
+    X(UNHEALTHY) X(ENDED) X(FULL_UNSEEN) X(UNNAMED) X(NOT_ASIDE) X(ASIDE_EARLY) X(LEAKS)
+#define RULE_VALUE(name) RULE_##name,
+enum rule { RULES(RULE_VALUE) RULE_COUNT };
+
+void rules_second(void);
+void rules_end(void);
+void rule_broken(enum rule rule, const char *form, ...) __attribute__((format(printf, 2, 3)));
+
+/* Prints those that were broken, each once: how many. */
+unsigned rules_print(const char *before);
+
+#endif

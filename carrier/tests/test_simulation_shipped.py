@@ -1,0 +1,72 @@
+"""Drawn runs of the shipped sender and receivers (carrier/simulation/shipped): no profile of the gate breaks a rule, each
+kind of fault happens in them, and each mutant and planted fault is found, where the tree as it is breaks no such
+rule."""
+import os
+import re
+
+import pytest
+
+from lib import scripts
+from lib.build import building
+
+simulate = scripts.load("carrier/simulation/shipped/simulate")
+profiles = simulate.profiles
+JOBS = min(2, os.cpu_count() or 1)
+KINDS = dict(re.findall(r'X\(\w+, "(\w+)", "(.*?)"\)', building.text_of("carrier/simulation/shipped/kinds.h")))
+SANITIZED = [profiles.Row("lost+killed+memory", 2), profiles.Row("restored+deleted", 1), profiles.Row("refused_a_while", 1)]
+
+
+def kinds_of(rows):
+    return {kind for row in rows for kind in re.split(r"[+,]", f"{row.profile},{getattr(row, 'besides', '')}") if kind}
+
+
+@pytest.fixture(scope="module", name="program")
+def built():
+    return simulate.build(simulate.library())
+
+
+@pytest.fixture(scope="module", name="result")
+def of_all(program):
+    return simulate.run(program, profiles.PASSES, JOBS)
+
+
+def test_no_seed_breaks_a_rule(result):
+    assert result.failures == [] and (result.passed, result.failed) == (sum(it.seeds for it in profiles.PASSES), 0)
+
+
+def test_each_kind_of_fault_happens(result):
+    assert [text for text in KINDS.values() if result.counts[text] == 0] == []
+
+
+def test_each_kind_is_in_a_table():
+    assert kinds_of(profiles.PASSES) == set(KINDS)
+
+
+def test_a_run_is_repeated_by_its_seed(program):
+    once, again, other = (simulate.run(program, [profiles.Row("lost+killed+memory", 2)], first=first)
+                          for first in (7, 7, 8))
+    assert (once.counts, once.steps) == (again.counts, again.steps) != (other.counts, other.steps)
+
+
+def test_sanitizers_find_nothing(program):
+    sanitized = simulate.build(simulate.library(), sanitizes=True)
+    result, plain = (simulate.run(it, SANITIZED, JOBS) for it in (sanitized, program))
+    assert result.failures == [] and (result.counts, result.steps) == (plain.counts, plain.steps)
+
+
+def test_each_mutant_is_in_the_table():
+    """But for those of real openings, of NATS, and of frames that somebody copies into another shard."""
+    edits = simulate.mutants.EDITS | simulate.mutants.TICKET_EDITS
+    assert set(profiles.MUTANTS) == {it for it, edit in edits.items() if edit[0] not in {
+        "nats_publisher.c", "opening.c", "shard_open.c"}}
+
+
+def test_each_planted_fault_is_in_the_table():
+    assert set(simulate.plants.EDITS) == set(simulate.plants.FOUND)
+
+
+@pytest.mark.parametrize("name", profiles.MUTANTS | simulate.plants.FOUND)
+def test_a_mutant_is_found(program, name):
+    profile, seed, rule = (profiles.MUTANTS | simulate.plants.FOUND)[name]
+    assert simulate.finds_mutant(simulate.library(), name)
+    assert rule not in simulate.breaks(program, profile, seed)
