@@ -168,7 +168,7 @@ static enum effect_answer take_settled(struct store *store, const struct arrived
     return EFFECT_REFUSED;
 }
 
-/* One that is told as it stands, since its shard waits for it. */
+/* The log names it, since its shard waits for it. */
 static enum effect_answer tell_later(const struct arrived *it, enum effect_answer answer)
 {
     log_fact(LEVEL_WARNING, "text_waits", field_text("session", it->session), field_number("number", it->number),

@@ -32,7 +32,7 @@ int effects_choose(const char *word, unsigned tries);
 int effects_are_outside(void);
 int effects_may_put_aside(void);
 
-/* What came of the effect of one text: it is done, or asked for; the text is refused; it can't be had now; the store has
+/* The outcome of the effect of one text: it is done, or asked for; the text is refused; it can't be had now; the store has
  * a fault, as where it refuses values of a text that wasn't taken alone. */
 enum effect_answer { EFFECT_FAULT = -1, EFFECT_DONE = 0, EFFECT_REFUSED = 1, EFFECT_LATER = 2 };
 enum { EFFECT_SECONDS = 70 }; /* so long a command may take for one text, and some more */

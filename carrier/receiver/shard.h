@@ -137,7 +137,7 @@ int shard_start(struct shard *shard);
 void shard_use(struct shard *shard, struct sessions *sessions);
 
 /* Fetches frames, and takes them in a transaction, or some of them. Answers how many there were; SHARD_AWAY after a fault
- * of the store, which the next step opens again; or SHARD_HELD: the effect of a text can't be had now, which is told. */
+ * of the store, which the next step opens again; or SHARD_HELD: the effect of a text can't be had now, as the log says. */
 enum { SHARD_AWAY = -1, SHARD_HELD = -2 };
 int shard_step(struct shard *shard, int milliseconds);
 

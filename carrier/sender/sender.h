@@ -198,13 +198,13 @@ void publish_stop(struct sender *s, struct sending *it);
 
 /* ---- sender_receipts.c */
 
-/* What came of a receipt: the more, the later it stands here. HEARD_FAULT: it can't be heard now. */
+/* The outcome of a receipt: the more, the later it stands here. HEARD_FAULT: it can't be heard now. */
 enum heard { HEARD_NOTHING, HEARD_DELIVERED, HEARD_STOPS, HEARD_FAULT };
 
 /* Takes the receipts that came. At the start those of sessions that aren't loaded are kept until they are. */
 void receipts_hear(struct sender *s);
 
-/* Has a session hear what is kept for it, before it is in the lists above; then what came of that is noted. */
+/* Has a session hear what is kept for it, before it is in the lists above; the outcome is noted after that. */
 enum heard receipts_hear_kept(struct sender *s, struct sending *it);
 void receipts_note(struct sender *s, struct sending *it, enum heard heard);
 void receipts_forget(struct sender *s);

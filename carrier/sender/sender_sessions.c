@@ -142,7 +142,7 @@ static int load_named(void *given, const char *name)
     return found < 0 ? -1 : 0;
 }
 
-/* One that a receipt stopped, and that has no frame: it is told again, as long as it has its line. */
+/* One that a receipt stopped, and that has no frame: `stopped` names it again, as long as it has its line. */
 static int load_stopped(void *given, const char *name)
 {
     struct sender *s = given;

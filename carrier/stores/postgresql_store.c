@@ -299,7 +299,7 @@ static int ask(struct store *base, const char *sql, const struct value *values, 
 
 /* ---- */
 
-/* A server that is another one is noticed by what it has (shard.c). */
+/* A server that has changed is noticed by what it has (shard.c). */
 static int is_there(struct store *base)
 {
     (void)base;

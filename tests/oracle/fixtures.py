@@ -1,7 +1,7 @@
 """The keys, addresses and frames that the tests expect: of krb_seal and krb_peers (in
-krb_message_tests), krb_core (in krb_thread_tests), krb_commands, krbrelay, krb_structs (in
-krb_call_tests), krb_laws (in krb_call_tests), of the C programs, of the program example_seal
-and of the package in python/. The sealer is frames.py."""
+krb_message_tests), krb_core (in krb_thread_tests), krb_commands, krbrelay, krb_structs and krb_laws (both in
+krb_call_tests), of the C programs, of the program example_seal and of the package in python/. The sealer
+is frames.py."""
 import hashlib
 
 from lib.jobs import MICROS

@@ -24,7 +24,7 @@ USED = 0.9          # the part of the free memory that proofs may take
 # About the processor seconds of a proof, estimated from runs of 2026-11-25 beside other work: only
 # their ratios count. A crate that isn't here is taken for a middling one.
 SECONDS = {
-    "krb_base": 20, "krb_time": 40, "krb_record": 60, "krb_record": 10, "krb_aes": 100,
+    "krb_base": 20, "krb_time": 40, "krb_record": 70, "krb_aes": 100,
     "krb_keys": 40,
     "krb_tlv": 70, "krb_der": 200, "krb_lane": 250, "krb_etype": 60, "krb_seal": 180, "krb_peers": 200,
     "krb_core": 300, "krb_relay": 280, "krb_job": 280, "krb_commands": 190, "krb_program": 250,
