@@ -8,6 +8,7 @@ import contextlib
 import dataclasses
 import glob
 import os
+import re
 import shutil
 import signal
 import socket
@@ -1085,7 +1086,8 @@ def effect_fails(place):
     receiver = place.start("receiver")
     place.require(place.wait(lambda: place.is_delivered({"tom": 10}), 5), "the other shard stands")
     time.sleep(1)
-    place.require(place.delivered()["ann"] == [], f"of ann {place.delivered()['ann']} took effect")
+    place.require(place.delivered()["ann"] == [f"ann {it}" for it in range(5)], f"of ann {place.delivered()['ann']} took effect")
+    place.require(re.search("event=text_refused session=ann number=6 ", place.log(receiver)), place.log(receiver)[:300])
     place.require(loglines.has(place.log(receiver), "database_fault", "no such effect"),
                   place.log(receiver)[:300])
     with sqlite3.connect(f"{place.folder}/store.db", timeout=errors.LIMIT) as file:
@@ -1267,16 +1269,24 @@ def numbers(port):
     return dict(line.rsplit(" ", 1) for line in lines if " " in line and line[0] != "#")
 
 
-def require_age(place, port):
-    """A text of a session without a line waits: since when, as far as that is known."""
+def require_age(place, process, port):
+    """Since when the oldest text waits, as far as that is known: here as a sender finds it that was stopped for a while. Texts
+    of a session without a line, which waits for somebody, don't count."""
     place.put(texts("nobody", 0, 2))
-    for change, is_right in (("since - 100", lambda age: age and 100 <= float(age) < 110),
-                             ("0", lambda age: age is None)):
+    for number, (since, is_right) in enumerate((("since - 100", lambda age: age and 100 <= float(age) < 110),
+                                                ("0", lambda age: age is None))):
+        process.send_signal(signal.SIGSTOP)
+        place.put(texts("ann", 300 + number, 301 + number))
         with sqlite3.connect(place.outbox, timeout=errors.LIMIT) as file:
-            file.execute(f"UPDATE text SET since = {change} WHERE session = 'nobody'")
+            file.execute(f"UPDATE text SET since = {since} WHERE session = 'ann'")
+            file.execute("UPDATE text SET since = 1000 WHERE session = 'nobody'")
         file.close()
+        time.sleep(1.2)
+        process.send_signal(signal.SIGCONT)
         place.require(place.wait(lambda: is_right(
-            numbers(port).get("krbrelay_sender_oldest_text_seconds{}")), 4), f"the age, {change}")
+            numbers(port).get("krbrelay_sender_oldest_text_seconds{}")), 1), f"the age, {since}")
+        time.sleep(2)
+    place.require(float(numbers(port)["krbrelay_sender_oldest_text_seconds{}"]) == 0, "the age, of none")
 
 
 def require_no_work(place, port):
@@ -1293,7 +1303,7 @@ def metrics(place):
     sender, receiver = engines.free_ports(2)
     place.put(texts("ann", 0, 300) + texts("tom", 0, 7))
     place.write(f"{place.folder}/wrong", [ANN, TOM.replace("22" * 32, "33" * 32)])
-    place.start("sender", metrics=f"127.0.0.1:{sender}")
+    process = place.start("sender", metrics=f"127.0.0.1:{sender}")
     place.start("receiver", metrics=f"127.0.0.1:{receiver}", sessions=f"{place.folder}/wrong")
     place.await_delivered()
     wanted = {(sender, 'krbrelay_sender_sealed_frames_total{}'): "307",
@@ -1310,7 +1320,7 @@ def metrics(place):
         fine = place.wait(lambda: numbers(port).get(name) == number, 4)
         place.require(fine, f"{name} isn't {number}: {numbers(port).get(name)}")
     require_no_work(place, sender)
-    require_age(place, sender)
+    require_age(place, process, sender)
     for port in (sender, receiver):
         place.require(get(port, "/healthz")[0] == 200, f"/healthz: {get(port, '/healthz')}")
         place.require(get(port, "/other")[0] == 404, "/other is there")
