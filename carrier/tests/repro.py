@@ -1273,6 +1273,8 @@ def require_age(place, process, port):
     """Since when the oldest text waits, as far as that is known: here as a sender finds it that was stopped for a while. Texts
     of a session without a line, which waits for somebody, don't count."""
     place.put(texts("nobody", 0, 2))
+    with contextlib.closing(sqlite3.connect(place.outbox, timeout=errors.LIMIT)) as file:
+        place.require(place.wait(lambda: file.execute("SELECT 1 FROM stopped").fetchone(), 5), "nobody is stopped")
     for number, (since, is_right) in enumerate((("since - 100", lambda age: age and 100 <= float(age) < 110),
                                                 ("0", lambda age: age is None))):
         process.send_signal(signal.SIGSTOP)
