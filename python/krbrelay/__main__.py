@@ -61,11 +61,11 @@ def parser() -> argparse.ArgumentParser:
     commands = made.add_subparsers(metavar="COMMAND", required=True)
     show = commands.add_parser("show", help="prints messages", description=ABOUT)
     show.add_argument("message", metavar="MESSAGE", nargs="?", default="-",
-                      help="a message in hexadecimal digits; by default, and for -, standard input, "
-                           "with a message on each line")
+                      help="a message in hexadecimal digits; by default, and for -, standard "
+                           "input, with a message on each line")
     show.add_argument("--any", action="store_true",
-                      help="reads digits with separators between them, and one message over several "
-                           "lines")
+                      help="reads digits with separators between them, and one message over "
+                           "several lines")
     show.add_argument("--key", metavar="FILE",
                       help="a file with the key, 16 bytes or 32, in hexadecimal digits or as they "
                            "are; - for standard input")

@@ -37,7 +37,7 @@ def digits_of(text: bytes) -> bytes:
 
 
 def bytes_in(digits: bytes) -> Optional[bytes]:
-    """The bytes that digits spell, or None where they aren't digits, or are an odd number of them."""
+    """The bytes that digits spell; None where they aren't digits, or are an odd number of them."""
     try:
         return binascii.unhexlify(digits)
     except binascii.Error:
@@ -161,8 +161,8 @@ def is_message(digits: bytes) -> bool:
 
 
 def texts_of(given: bytes) -> List[bytes]:
-    """The lines of an input: it is cut at each line feed, and a last line without one counts where it
-    isn't empty."""
+    """The lines of an input: it is cut at each line feed, and a last line without one counts
+    where it isn't empty."""
     lines = given.split(b"\n")
     return lines if lines[-1] else lines[:-1]
 
