@@ -5,7 +5,8 @@
  *     INSERT INTO text (session, body) VALUES ('tom-7', 'hello')
  * A body that is NULL is the close. A text after it, and one of more than 1,000,000 bytes, is
  * refused at its insertion, and so is one for which there is no room (outbox_bound). The table `stopped` has each session that waits for somebody to do
- * something, and the reason; a sender that starts empties it and tries again.
+ * something, and the reason; a sender that starts empties it and tries again, but for those that a receipt stopped: these
+ * stay stopped as long as they have their key.
  *
  * A text is in the table `sealed` from then on, under the same id, with the
  * number and the part under which it takes effect, until a receipt says that it did. So a text that is

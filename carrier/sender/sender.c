@@ -214,7 +214,7 @@ static void report_silence(struct sender *s, size_t rose)
     s->told = now;
 }
 
-/* Begins anew if the file of sessions has changed: those that were stopped are tried again. */
+/* Begins anew if the file of sessions has changed: those that no receipt stopped are tried again. */
 static enum outbox_answer look_at_sessions(struct sender *s)
 {
     enum outbox_answer begun;

@@ -123,8 +123,8 @@ struct carrier {
     /* Takes receipts of a shard's sessions: offsets don't matter. */
     int (*acknowledge)(struct carrier *, unsigned shard, const struct carried *list, size_t count);
 
-    /* Passes those that came since the last call to a function; the first call passes the last one of each session,
-     * and may wait for that. */
+    /* Passes those that came since the last call to a function; the first call that answers 0 has passed the last one
+     * of each session, and may wait for that. */
     int (*receipts)(struct carrier *, carrier_receipt *take, void *given);
 
     /* A session has ended, and its receipt need not be kept. It may be kept all the same, where the carrier is away or
