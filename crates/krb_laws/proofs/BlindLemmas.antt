@@ -5,7 +5,7 @@ use Rattle.std.proofs.lemmas.Bool.{eq-eqb, and_from}
 use Rattle.krb_peers.specs.Attempt.{Attempt, ends_at}
 use Rattle.krb_peers.specs.Demand.{Demand}
 use Rattle.krb_peers.specs.Verdicts.{delivered}
-use Rattle.krb_carry.specs.Store.{Stored, Commits}
+use Rattle.krb_carry.specs.Store.{Stored, Commits, applied}
 use Rattle.krb_laws.specs.Database.{with_row, executed}
 use Rattle.krb_laws.specs.StoreTables.{SessionRow, Effect, Tables, no_rows, nothing_reached, Batch, inserts, blind_advances, blind_transaction, demand_in, effects_of, stored_in, Moves, is_row, advances, transaction}
 use Rattle.krb_laws.proofs.DatabaseLemmas.{executed-append}
@@ -71,8 +71,14 @@ module _ (first : ℕ) (attempt : Attempt) where
   moved : executed (advances batch.moves) (record same_begun { effects = batch.effects }) ≡ Some same_new
   moved = rw (is_row_itself (row_of attempt.receiver.demand)) refl
 
+  taken : stored_in first 0 same_new ≡ applied (stored_in first 0 same_old) attempt
+  taken =
+      ap (λ (l : List (List ℕ)). let s : Stored = record { demand = demand_in first (Some (row_of (ends_at attempt))); effects = l } in s) (its_effects (delivered attempt.verdicts))
+      ∙ ap (λ (d : Demand). let s : Stored = record { demand = d; effects = delivered attempt.verdicts } in s) (row_demand first (ends_at attempt))
+
   pub happens : (batch : Batch) × Moves first 0 batch attempt
-      × ((old : Tables) × (new : Tables) × (executed (transaction batch) old ≡ Some new) × ((stored_in first 0 old).demand ≡ attempt.receiver.demand))
+      × ((old : Tables) × (new : Tables) × (executed (transaction batch) old ≡ Some new) × ((stored_in first 0 old).demand ≡ attempt.receiver.demand)
+      × (stored_in first 0 new ≡ applied (stored_in first 0 old) attempt))
   happens = (
     batch,
     is_moved,
@@ -82,6 +88,7 @@ module _ (first : ℕ) (attempt : Attempt) where
       executed-append (inserts batch.effects) (advances batch.moves) same_begun
           ∙ (ap (λ o. option_and_then (executed (advances batch.moves)) o) (inserted batch.effects same_begun) ∙ moved),
       row_demand first attempt.receiver.demand,
+      taken,
     ),
   )
 

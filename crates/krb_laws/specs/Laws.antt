@@ -13,7 +13,7 @@ use Rattle.krb_carry.specs.Outbox.{Sealing, Act, Insert, Seal, IsAct, Acts, Lead
 use Rattle.krb_carry.specs.Progress.{Happening, new_progress, after_all, IsTruthful}
 use Rattle.krb_carry.specs.Reading.{Reading, IsReading, CommitsReading, LeadsReading, new_shard}
 use Rattle.krb_carry.specs.Shard.{Item}
-use Rattle.krb_carry.specs.Store.{new_session, Commits, Leads}
+use Rattle.krb_carry.specs.Store.{new_session, Commits, Leads, applied}
 use Rattle.krb_laws.specs.Database.{Table, executed, CommitAnswer, Ends, Others, Meanwhile, among}
 use Rattle.krb_laws.specs.Database.{HoldsLocks, all_others, changed_all, changes_of}
 use Rattle.krb_laws.specs.OutboxTables.{OutboxTables, empty_tables, TextRow, Next, Sent, Holds, nexts_of, Seals}
@@ -49,12 +49,14 @@ BatchesCommitReadings = OfBatches (λ batch old new.
     → CommitsReading (shard_in list batch.shard first session old) reading
     (shard_in list batch.shard first session new))
 
--- it can take effect: of any attempt that begins with what is stored
+-- it can take effect: of any attempt that begins with what is stored, and then what is stored is what the attempt makes
+-- of it
 abbrev pub BatchesHappen : Type 0
 BatchesHappen =
     (first : ℕ) (attempt : Attempt) → (batch : Batch) × Moves first 0 batch attempt
     × ((old : Tables) × (new : Tables) × (executed (transaction batch) old ≡ Some new)
-    × ((stored_in first 0 old).demand ≡ attempt.receiver.demand))
+    × ((stored_in first 0 old).demand ≡ attempt.receiver.demand)
+    × (stored_in first 0 new ≡ applied (stored_in first 0 old) attempt))
 
 -- where UPDATE has lost its WHERE, an attempt that delivers something doesn't commit or do nothing
 abbrev pub BlindBatchesDoNot : Type 0

@@ -12,11 +12,12 @@ use krb_carry::delivery_laws;
 /// of any number of sessions from what was read of each. Whatever stands in the tables, and however it
 /// ends, what they have of a session that it moves is what krb_carry's `Commits` says (`commit`), with
 /// the shard's offset what `CommitsReading` says (`reading`), and what they have of another stays
-/// (`alone`). It can take effect (`happen`), and it is no such thing where its UPDATE has lost its
-/// WHERE (`blind`). So whatever whole transactions of any receivers come, in whatever order, what the
-/// tables have of a session is what a history of attempts leaves (`histories`), and of a session of one
-/// shard, what a history of readings leaves, though a session of which nothing was accepted isn't
-/// compared (`readings`).
+/// (`alone`). It can take effect, and leaves what the attempt makes of what was stored (`happen`), which a
+/// transaction without a statement doesn't. It is no such thing where its UPDATE has lost its WHERE
+/// (`blind`). So whatever whole transactions of any receivers come, in whatever order, what the tables
+/// have of a session is what a history of attempts leaves (`histories`), and of a session of one shard,
+/// what a history of readings leaves, though a session of which nothing was accepted isn't compared
+/// (`readings`).
 ///
 /// Whole transactions are more than read committed gives: there others commit between two statements.
 /// Where each statement's WHERE is decided on the latest committed row, and nobody else writes this

@@ -1,0 +1,2 @@
+pub mod TimesLemmas
+pub mod LaneLemmas

@@ -1,0 +1,11 @@
+use Rattle.std.proofs.Common.{◌<◌, length, subst, sym}
+use Rattle.krb_sender.specs.Lane.{LaneState}
+use Rattle.krb_sender.proofs.LaneLemmas.{wake_lane}
+use Rattle.krb_sender.proofs.lane.Lane.wake.Goals as goal
+
+pub invariant_of-self : goal.invariant_of-self
+invariant_of-self c =
+    wake_lane c.self.inside.sessions.items c.self.inside.queue c.self.inside.times c.note.new.queue c.note.new.times
+    c.self.inside.under_way c.self.inside.clock c.args.place c.index-session.result.now
+    c.self.invariant (subst (λ (l : LaneState). c.args.place < length l.sessions) (sym c.self.view_is) c.requires) c.index-session.ensures
+    c.note.ensures.length c.note.ensures.queue c.note.ensures.times c.note.ensures.time c.note.ensures.more c.note.ensures.room

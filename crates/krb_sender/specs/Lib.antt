@@ -1,0 +1,4 @@
+pub mod Times
+pub mod SessionState
+pub mod Session
+pub mod Lane
