@@ -4,6 +4,7 @@
 #include "locks.h"
 #include "log.h"
 #include "text.h"
+#include "words.h"
 
 #include <math.h>
 #include <stdio.h>
@@ -277,6 +278,15 @@ static struct addrinfo *address_of(const char *where)
     return getaddrinfo(address, port + 1, &hints, &found) == 0 ? found : NULL;
 }
 
+void service_check_option(const char *program, const char *where)
+{
+    struct addrinfo *found = where != NULL ? address_of(where) : NULL;
+    if (where != NULL && found == NULL)
+        end_with(2, "%s: --metrics '%s': name ADDRESS:PORT, such as 127.0.0.1:9464\n", program, where);
+    if (found != NULL)
+        freeaddrinfo(found);
+}
+
 int service_listen(const char *where)
 {
     struct addrinfo *found = address_of(where);
@@ -303,11 +313,17 @@ void service_end(void)
     free(service.parts);
 }
 #else
+void service_check_option(const char *program, const char *where)
+{
+    if (where != NULL)
+        end_with(2, "%s: --metrics: this program was built without it: install libmicrohttpd-dev, and run make\n",
+                 program);
+}
+
 int service_listen(const char *where)
 {
-    log_fact(LEVEL_ERROR, "metrics_missing", field_text("metrics", where), field_text("text",
-             "this program was built without --metrics: install libmicrohttpd-dev, and run make"));
-    return -1;
+    (void)where;
+    return -1; /* never: service_check_option has ended the program */
 }
 
 void service_end(void)

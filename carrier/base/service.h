@@ -21,6 +21,9 @@ enum { SERVICE_METRICS = 64, SERVICE_NAMES = 32 };
 int service_begin(const struct metric *metrics, unsigned count, const struct metric *sessions,
                   unsigned parts);
 
+/* Ends the program with status 2 and a message unless --metrics is ADDRESS:PORT, or NULL. */
+void service_check_option(const char *program, const char *where);
+
 /* Listens at ADDRESS:PORT. 0, or -1 with a report. */
 int service_listen(const char *where);
 

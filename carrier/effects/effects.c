@@ -2,6 +2,7 @@
 #include "carrier.h"
 #include "log.h"
 #include "text.h"
+#include "words.h"
 
 #include <dlfcn.h>
 #include <stdlib.h>
@@ -55,6 +56,14 @@ static int begins(const char *word, const char *with, const char **rest)
     return strncmp(word, with, len) == 0;
 }
 
+void effects_check_option(const char *program, const char *word)
+{
+    const char *rest = NULL;
+    if (word != NULL && !begins(word, "sql:", &rest) && !begins(word, "object:", &rest)
+        && !begins(word, "command:", &rest))
+        end_with(2, "%s: --effect: this is no effect: name sql:STATEMENT, object:FILE or command:WORDS\n", program);
+}
+
 static int choose(const char *word)
 {
     const char *rest = NULL;
@@ -66,13 +75,9 @@ static int choose(const char *word)
         chosen.call = take_by_object;
         return object_choose(rest);
     }
-    if (begins(word, "command:", &rest)) {
-        chosen.call = command_take;
-        return command_choose(rest);
-    }
-    log_fact(LEVEL_ERROR, "effect_unknown", field_text("effect", word),
-             field_text("text", "this is no effect: name sql:STATEMENT, object:FILE or command:WORDS"));
-    return -1;
+    (void)begins(word, "command:", &rest);
+    chosen.call = command_take;
+    return command_choose(rest);
 }
 
 int effects_choose(const char *word, unsigned tries)

@@ -25,6 +25,9 @@
     "  --put-aside N    a text that was refused N times is put into the table `aside`, with the reason (0:\n" \
     "                   it is tried again for ever)\n"
 
+/* Ends the program with status 2 and a message unless the word is of that form, or NULL. */
+void effects_check_option(const char *program, const char *word);
+
 /* Chooses it, before any shard is served; NULL is the effect of effect.c. 0, or -1 with a report. */
 int effects_choose(const char *word, unsigned tries);
 

@@ -352,6 +352,9 @@ int main(int count, char **words)
     if (!read_options(&options, count, words))
         end_with(2, "%s", usage);
     carrier_check_options("receiver", &options.shard.carrier);
+    store_check_option("receiver", options.shard.store);
+    effects_check_option("receiver", options.effect);
+    service_check_option("receiver", options.metrics);
     kerberos_check_options("receiver", &options.shard.kerberos, "--allow",
                            options.shard.kerberos.allowed);
     if (options.shard.until_closed && options.shard.kerberos.keytab != NULL)

@@ -125,6 +125,7 @@ int main(int count, char **words)
     if (!read_options(&sender.options, count, words))
         end_with(2, "%s", usage);
     carrier_check_options("sender", &sender.options.carrier);
+    service_check_option("sender", sender.options.metrics);
     kerberos_check_options("sender", &sender.options.kerberos, "--client",
                            sender.options.kerberos.client);
     umask(077); /* databases have texts and frames: they are for their owner alone */

@@ -100,38 +100,76 @@ static int split(char *line, char *words[WORDS])
     return count;
 }
 
-static int read_words(char *const words[WORDS], int count, struct session *it)
+/* The first word that is wrong. */
+enum wrong {
+    WRONG_NONE, WRONG_LINE, WRONG_COUNT, WRONG_NAME, WRONG_SHARD, WRONG_ETYPE, WRONG_MODE, WRONG_KEY, WRONG_FIRST,
+    WRONG_FROM, WRONG_TO, WRONG_BACK
+};
+
+static const char *const wrong_texts[] = {
+    [WRONG_LINE] = "the line has more than 319 bytes, or a zero byte",
+    [WRONG_COUNT] = "a line is NAME SHARD ETYPE MODE KEY FIRST FROM TO [BACK]: no comment, no empty line",
+    [WRONG_NAME] = "NAME has 1 to 31 letters, digits, '-' and '_'",
+    [WRONG_SHARD] = "SHARD is a number from 0 to 4095",
+    [WRONG_ETYPE] = "ETYPE is 17 or 18",
+    [WRONG_MODE] = "MODE is safe or priv",
+    [WRONG_KEY] = "KEY has 32 hexadecimal digits of type 17, and 64 of type 18",
+    [WRONG_FIRST] = "FIRST is a number from 0 to 4294967295",
+    [WRONG_FROM] = "FROM is an IPv4 address, as 10.0.0.1",
+    [WRONG_TO] = "TO is an IPv4 address, as 10.0.0.2",
+    [WRONG_BACK] = "BACK has as many hexadecimal digits as KEY"
+};
+
+/* What isn't a key, in the order of a line. */
+static enum wrong read_numbers(char *const words[WORDS], struct session *it)
 {
     uint64_t shard, etype, first;
-    if (count < WORDS - 1 || !read_number(words[1], 0, CARRIER_SHARDS - 1, &shard)
-        || !read_number(words[2], 17, 18, &etype)
-        || !read_number(words[5], 0, UINT32_MAX, &first))
-        return 0;
-    it->has_back = count == WORDS ? 1 : 0;
+    if (!read_name(words[0], it->name))
+        return WRONG_NAME;
+    if (!read_number(words[1], 0, CARRIER_SHARDS - 1, &shard))
+        return WRONG_SHARD;
+    if (!read_number(words[2], 17, 18, &etype))
+        return WRONG_ETYPE;
+    if (!read_mode(words[3], &it->mode))
+        return WRONG_MODE;
+    if (!read_number(words[5], 0, UINT32_MAX, &first))
+        return WRONG_FIRST;
     it->shard = (unsigned)shard;
     it->etype = (int32_t)etype;
     it->first = (uint32_t)first;
-    return read_name(words[0], it->name) && read_mode(words[3], &it->mode)
-           && read_key(words[4], it, it->key) && read_address(words[6], &it->from)
-           && read_address(words[7], &it->to)
-           && (!it->has_back || read_key(words[8], it, it->back));
+    return WRONG_NONE;
+}
+
+static enum wrong read_words(char *const words[WORDS], int count, struct session *it)
+{
+    enum wrong wrong = count < WORDS - 1 ? WRONG_COUNT : read_numbers(words, it);
+    if (wrong != WRONG_NONE)
+        return wrong;
+    it->has_back = count == WORDS ? 1 : 0;
+    if (!read_key(words[4], it, it->key))
+        return WRONG_KEY;
+    if (!read_address(words[6], &it->from))
+        return WRONG_FROM;
+    if (!read_address(words[7], &it->to))
+        return WRONG_TO;
+    return it->has_back && !read_key(words[8], it, it->back) ? WRONG_BACK : WRONG_NONE;
 }
 
 /* Reads the line that stands at a place of the text. */
-static int read_line(const struct sessions *s, size_t at, struct session *it)
+static enum wrong read_line(const struct sessions *s, size_t at, struct session *it)
 {
     const char *end = memchr(s->text + at, '\n', s->size - at);
     size_t len = (size_t)(end - s->text) - at;
     char line[LINE], *words[WORDS];
-    int is_fine;
+    enum wrong wrong;
     memset(it, 0, sizeof *it);
     if (len >= sizeof line || memchr(s->text + at, 0, len) != NULL)
-        return 0;
+        return WRONG_LINE;
     memcpy(line, s->text + at, len);
     line[len] = 0;
-    is_fine = read_words(words, split(line, words), it);
+    wrong = read_words(words, split(line, words), it);
     explicit_bzero(line, sizeof line);
-    return is_fine;
+    return wrong;
 }
 
 /* ---- Lines by name, and by key */
@@ -212,12 +250,13 @@ static int sort(const struct sessions *s, struct place *places, size_t count, in
     return 1;
 }
 
-static int is_malformed(const struct sessions *s, size_t at)
+/* Reports what is wrong in the line at this place, if anything is: 1 if nothing is. */
+static int is_fine_line(const struct sessions *s, size_t at, enum wrong wrong)
 {
-    log_fact(LEVEL_ERROR, "session_malformed", field_text("file", s->path),
-             field_number("line", line_of(s, at)),
-             field_text("text", "a line is NAME SHARD ETYPE MODE KEY FIRST FROM TO [BACK]"));
-    return 0;
+    if (wrong != WRONG_NONE)
+        log_fact(LEVEL_ERROR, "session_malformed", field_text("file", s->path),
+                 field_number("line", line_of(s, at)), field_text("text", wrong_texts[wrong]));
+    return wrong == WRONG_NONE;
 }
 
 /* Checks each line, and notes its name and its keys, of which *count is how many there are. */
@@ -227,7 +266,7 @@ static int read_lines(struct sessions *s, struct place *keys, size_t *count)
     size_t at = 0;
     int is_fine = 1;
     while (at < s->size && is_fine) {
-        is_fine = read_line(s, at, &it) || is_malformed(s, at);
+        is_fine = is_fine_line(s, at, read_line(s, at, &it));
         s->places[s->count] = (struct place){ hash_of(it.name, strlen(it.name)), at };
         s->has_shard[it.shard] = 1;
         s->count++;
@@ -321,7 +360,7 @@ int sessions_find(const struct sessions *s, const char *name, struct session *it
     while (at != NULL && at > s->places && at[-1].hash == wanted.hash)
         at--;
     for (; at != NULL && at < end && at->hash == wanted.hash; at++)
-        if (read_line(s, at->at, it) && strcmp(it->name, name) == 0)
+        if (read_line(s, at->at, it) == WRONG_NONE && strcmp(it->name, name) == 0)
             return 1;
     return 0;
 }
@@ -338,7 +377,7 @@ size_t sessions_count(const struct sessions *s)
 
 void sessions_at(const struct sessions *s, size_t place, struct session *it)
 {
-    if (!read_line(s, s->places[place].at, it))
+    if (read_line(s, s->places[place].at, it) != WRONG_NONE)
         memset(it, 0, sizeof *it); /* never: each line was checked */
 }
 

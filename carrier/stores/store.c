@@ -2,7 +2,7 @@
 #include "store.h"
 #include "carrier.h"
 #include "log.h"
-#include "text.h"
+#include "words.h"
 
 #include <stdio.h>
 #include <stdlib.h>
@@ -14,25 +14,41 @@ const char kept_tables[] =
     " ends bigint NOT NULL, kvno bigint NOT NULL, wrapping bigint NOT NULL, key text NOT NULL,"
     " UNIQUE (client, stream, before));";
 
+static int is_sqlite(const char *where)
+{
+    return strncmp(where, "sqlite:", 7) == 0;
+}
+
+static int is_postgresql(const char *where)
+{
+    return strncmp(where, "postgresql:", 11) == 0;
+}
+
+#ifdef WITH_POSTGRESQL
+enum { HAS_POSTGRESQL = 1 };
+#else
+enum { HAS_POSTGRESQL = 0 };
+
+struct store *postgresql_store_open(const char *where)
+{
+    (void)where;
+    return NULL; /* never: store_check_option has ended the program */
+}
+#endif
+
+void store_check_option(const char *program, const char *where)
+{
+    if (!is_sqlite(where) && !is_postgresql(where)) /* what follows the first ':' may be a password */
+        end_with(2, "%s: --store '%.*s': this is no store: name sqlite:FILE or postgresql://USER@HOST/DATABASE\n",
+                 program, (int)strcspn(where, ":"), where);
+    if (is_postgresql(where) && !HAS_POSTGRESQL)
+        end_with(2, "%s: --store: this program was built without PostgreSQL: install libpq-dev, and run make\n",
+                 program);
+}
+
 struct store *store_open(const char *where, unsigned shard)
 {
-    char kind[16];
-    if (strncmp(where, "sqlite:", 7) == 0)
-        return sqlite_store_open(where + 7, shard);
-    if (strncmp(where, "postgresql:", 11) == 0) {
-#ifdef WITH_POSTGRESQL
-        return postgresql_store_open(where);
-#else
-        log_fact(LEVEL_ERROR, "store_missing", field_text("text",
-                 "this program was built without PostgreSQL: install libpq-dev, and run make"));
-        return NULL;
-#endif
-    }
-    /* What follows the first ':' may be a password. */
-    write_cut(kind, sizeof kind, "%.*s", (int)strcspn(where, ":"), where);
-    log_fact(LEVEL_ERROR, "store_unknown", field_text("store", kind), field_text("text",
-             "this is no store: name sqlite:FILE or postgresql://USER@HOST/DATABASE"));
-    return NULL;
+    return is_sqlite(where) ? sqlite_store_open(where + 7, shard) : postgresql_store_open(where);
 }
 
 /* ---- What is stored of a shard and its sessions */

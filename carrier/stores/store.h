@@ -43,6 +43,9 @@ struct demand {
     struct history history;
 };
 
+/* Ends the program with status 2 and a message unless --store names a store that it has. */
+void store_check_option(const char *program, const char *where);
+
 /* Opens "sqlite:FILE", in whose name '%' stands for the shard's number, or "postgresql://..".
  * NULL if it can't be opened. */
 struct store *store_open(const char *where, unsigned shard);

@@ -1,7 +1,5 @@
 /* Which carrier it is. */
 #include "carrier.h"
-#include "log.h"
-#include "text.h"
 #include "words.h"
 
 #include <stdio.h>
@@ -26,10 +24,9 @@ int carrier_option(const char *program, struct carrier_options *o, int letter, c
     return 1;
 }
 
-void carrier_check_options(const char *program, const struct carrier_options *o)
+static int is_sqlite(const char *where)
 {
-    if ((o->tls_cert == NULL) != (o->tls_key == NULL))
-        end_with(2, "%s: --tls-cert and --tls-key: name both\n", program);
+    return strncmp(where, "sqlite:", 7) == 0;
 }
 
 static int is_nats(const char *where)
@@ -37,24 +34,30 @@ static int is_nats(const char *where)
     return strncmp(where, "nats://", 7) == 0 || strncmp(where, "tls://", 6) == 0;
 }
 
+#ifdef WITH_NATS
+enum { HAS_NATS = 1 };
+#else
+enum { HAS_NATS = 0 };
+
+struct carrier *nats_carrier_open(const struct carrier_options *options)
+{
+    (void)options;
+    return NULL; /* never: carrier_check_options has ended the program */
+}
+#endif
+
+void carrier_check_options(const char *program, const struct carrier_options *o)
+{
+    if ((o->tls_cert == NULL) != (o->tls_key == NULL))
+        end_with(2, "%s: --tls-cert and --tls-key: name both\n", program);
+    if (!is_sqlite(o->where) && !is_nats(o->where)) /* what follows the first ':' may be a password */
+        end_with(2, "%s: --carrier '%.*s': this is no carrier: name nats://HOST:PORT or sqlite:FILE\n", program,
+                 (int)strcspn(o->where, ":"), o->where);
+    if (is_nats(o->where) && !HAS_NATS)
+        end_with(2, "%s: --carrier: this program was built without NATS: install libnats-dev, and run make\n", program);
+}
+
 struct carrier *carrier_open(const struct carrier_options *options)
 {
-    const char *where = options->where;
-    char kind[16];
-    if (strncmp(where, "sqlite:", 7) == 0)
-        return sqlite_carrier_open(where + 7);
-    if (is_nats(where)) {
-#ifdef WITH_NATS
-        return nats_carrier_open(options);
-#else
-        log_fact(LEVEL_ERROR, "carrier_missing", field_text("text",
-                 "this program was built without NATS: install libnats-dev, and run make"));
-        return NULL;
-#endif
-    }
-    /* What follows the first ':' may be a password. */
-    write_cut(kind, sizeof kind, "%.*s", (int)strcspn(where, ":"), where);
-    log_fact(LEVEL_ERROR, "carrier_unknown", field_text("carrier", kind),
-             field_text("text", "this is no carrier: name nats://HOST:PORT or sqlite:FILE"));
-    return NULL;
+    return is_sqlite(options->where) ? sqlite_carrier_open(options->where + 7) : nats_carrier_open(options);
 }
