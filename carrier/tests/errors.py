@@ -91,7 +91,7 @@ WRONG_OPTIONS = [(program, words, options, told) for program in ("sender", "rece
     ("receiver", [], {"store": "file"}, "--store 'file': this is no store")]
 
 
-# A line of the sessions that is right but for one word, and what is told of it.
+# A line of the sessions that is right but for one word, and what the log says of it.
 RIGHT = ["tom", "0", "18", "priv", "22" * 32, "1", "10.0.0.2", "10.0.0.255", "33" * 32]
 WRONG_LINES = [(" ".join([*RIGHT[:place], word, *RIGHT[place + 1:]]), told) for place, word, told in (
     (0, "tom.7", "NAME has 1 to 31 letters"), (0, "t" * 32, "NAME has 1 to 31 letters"),
