@@ -15,6 +15,15 @@ int has(enum kind kind)
     return now[kind];
 }
 
+int is_calm(void)
+{
+    unsigned i, others = 0;
+    for (i = 0; i < KIND_COUNT; i++)
+        others += now[i] && i != KIND_CALM && i != KIND_SILENT && i != KIND_SKEWED && i != KIND_BURSTS && i != KIND_TICKETS;
+    others += now[KIND_SKEWED] && now[KIND_BURSTS];
+    return others == 0 && (now[KIND_CALM] || now[KIND_SILENT] || now[KIND_SKEWED]);
+}
+
 void kinds_count_at(uint64_t at[KIND_COUNT])
 {
     counts = at;

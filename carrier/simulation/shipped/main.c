@@ -1,4 +1,5 @@
 /* Runs seeds, one after the other. `usage` says how it is called. */
+#include "engine.h"
 #include "world.h"
 
 #include <stdio.h>
@@ -101,7 +102,7 @@ static void begin(uint64_t seed)
 static void put_texts(void)
 {
     unsigned i;
-    if (world.second >= DISTURBED)
+    if (world.second >= (is_calm() ? CALM : DISTURBED))
         return;
     box_put_some(&world.boxes[0]);
     if (!world.boxes[1].is_used)
@@ -134,7 +135,7 @@ static void step_all(void)
 static int is_done(void)
 {
     return world.is_flooded || world.second >= DISTURBED + FAIR
-           || (world.second >= DISTURBED + 5 && box_is_done(&world.boxes[0]));
+           || (world.second >= DISTURBED + (is_calm() ? 30u : 5u) && box_is_done(&world.boxes[0]));
 }
 
 static void end(void)
@@ -242,6 +243,8 @@ int main(int count, char **words)
     if (totals == MAP_FAILED)
         return 2;
     kinds_count_at(totals->counts);
+    if (getenv("SIMULATION_PLANT") != NULL && !engine_plant(getenv("SIMULATION_PLANT")))
+        return 2;
     first = strtoull(words[3], NULL, 10);
     last = first + strtoull(words[4], NULL, 10);
     umask(077); /* as the programs do */

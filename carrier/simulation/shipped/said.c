@@ -9,7 +9,8 @@
 
 #pragma GCC diagnostic ignored "-Wunused-parameter"
 
-#define PATIENCE (30 * SECOND) /* after a fault of the carrier, for which it may be said to be away */
+/* Seconds after a fault of the carrier, for which it may be said to be away; pauses have grown while it was silent. */
+enum { PATIENCE = 30, LONG_PATIENCE = 70 };
 
 void __real_log_fields(enum level level, const char *event, const struct field *fields);
 void __wrap_log_fields(enum level level, const char *event, const struct field *fields);
@@ -24,9 +25,9 @@ void said_begin(void)
     said = (struct said){ .worked_at = now };
 }
 
-static int has_been_faulty(void)
+int has_been_faulty(void)
 {
-    return now - faults.carrier_at < PATIENCE;
+    return now - faults.carrier_at <= (has(KIND_SILENT) ? LONG_PATIENCE : PATIENCE) * SECOND;
 }
 
 /* A line names the refused session, unless it says that all of them stand. */

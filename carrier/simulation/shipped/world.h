@@ -7,7 +7,8 @@
 
 #include <sqlite3.h>
 
-enum { DISTURBED = 60, FAIR = 400, PUNCTUAL = 100 }; /* seconds: faults; all has to be done, or told, after them; and soon */
+/* Seconds: faults; all has to be done, or told, after them; and soon. In a calm run applications put texts in for so long. */
+enum { DISTURBED = 60, FAIR = 400, PUNCTUAL = 100, CALM = 36 };
 enum { PATHS = 300, BOXES = 2 };
 
 /* ---- Texts */
@@ -18,7 +19,7 @@ struct mark { sqlite3_int64 id; unsigned serial; };
 /* An outbox, as its application knows it: the texts that it put in, or that were in the copy. */
 struct box {
     struct mark *marks[MOST_NAMES];
-    unsigned count[MOST_NAMES];
+    unsigned count[MOST_NAMES], own_from[MOST_NAMES]; /* from here on they are in no other outbox */
     sqlite3 *application;
     char path[PATHS];
     int is_used;
@@ -33,9 +34,11 @@ struct name {
     unsigned forbidden_from; /* texts of a restored outbox from here on may not take effect, .. */
     int is_forbidden;        /* .. if the session has to be stopped, since it is older than a receipt */
     int has_advanced;        /* since the copy that was restored */
-    int was_stopped;
+    int was_stopped, was_refused; /* as its outbox has said */
     int is_struck;           /* something was done to the session itself, so it may stand */
-    unsigned said;           /* what its outbox says */
+    unsigned said, stands;   /* what its outbox says, and why */
+    unsigned short put_at[MOST_TEXTS]; /* in which second a text was put in, */
+    unsigned took_in[MOST_TEXTS], sealed_in[MOST_TEXTS]; /* and of a stream the digest of its session's name */
     unsigned char outcome[MOST_TEXTS], waits[MOST_TEXTS]; /* waits: it is in an outbox, as was looked last */
 };
 
@@ -82,7 +85,8 @@ void ends_begin(void);
 void ends_step(int party);
 void ends_stop(int party, int is_clean, uint64_t until);
 void ends_write_sessions(void);
-void ends_use_sessions(void); /* receivers use the file as it is now */
+void ends_use_sessions(unsigned within); /* receivers use the file as it is now, each within so many milliseconds */
+int has_one_store(void);                 /* for all shards */
 uint64_t ends_next(void);
 
 /* ---- events.c: what happens in a second that is disturbed; the world is fair; what a copy of an outbox knew */
@@ -94,7 +98,8 @@ void events_end(void);
 
 #define RULES(X) \
     X(DOUBLED) X(OVERTAKEN) X(CHANGED) X(LOST) X(LEFT_OUT) X(UNTOLD) X(STANDS) X(LATE) X(FLOOD) X(SPINS) X(REPEATED) X(AWAY) \
-    X(UNHEALTHY) X(ENDED) X(FULL_UNSEEN) X(UNNAMED) X(NOT_ASIDE) X(ASIDE_EARLY) X(LEAKS)
+    X(UNHEALTHY) X(ENDED) X(FULL_UNSEEN) X(UNNAMED) X(NOT_ASIDE) X(ASIDE_EARLY) X(LEAKS) X(UNFAIR) X(CROWDED) X(CHATTER) \
+    X(KEPT) X(UNTRUE) X(ELSEWHERE)
 #define RULE_VALUE(name) RULE_##name,
 enum rule { RULES(RULE_VALUE) RULE_COUNT };
 
