@@ -11,12 +11,12 @@ enum {
     EACH_BURST = 8, AWAY_OF_IT = 3,     /* of each eight, where there are bursts; */
     SPOILT_AWAY = 25, SPOILT = 31,      /* so that frames wait, when one of them is spoilt */
     REFUSED_FROM = 12, POISONS = 30, A_WHILE = 20,
-    COPIED = 10, COPIED_WITHIN = 8, FORKED = 20, FORKED_UNTIL = 24, TAKEN_OVER = 25, RESTORED = 34, ADDED_AFTER = 36,
+    COPIED = 10, COPIED_WITHIN = 8, FORKED_UNTIL = 24, TAKEN_OVER = 25, RESTORED = 34, ADDED_AFTER = 36,
     MOVED_EACH = 12, MOVED = 8,
     CLOCK_FROM = 15, CLOCK_UNTIL = 50, BOUNDED_FROM = 15, BOUNDED_UNTIL = 50,
     LOST_FRAME = 20, LOST_CONFIRMATION = 30, LOST_RECEIPTS = 38, LOST_UNTIL = 43,
     SILENT_FROM = 20, SILENT_UNTIL = 50, SKEWED_FROM = 10, SKEWED_UNTIL = 58,
-    LATER_BY = 3, UNEVEN = 5000, HOURS = 3 * 3600, ALWAYS = 1000, STATEMENT = 240
+    LATER_BY = 3, UNEVEN = 10000, HOURS = 3 * 3600, ALWAYS = 1000, STATEMENT = 240
 };
 #define NEVER UINT64_MAX
 
@@ -85,6 +85,8 @@ static void take_keys(void)
 {
     if (has(KIND_KEYS) && drawn(3) == 0)
         faults.has_no_keys[drawn(2)] = drawn(2) == 0;
+    if (has(KIND_KEYS) && has(KIND_FORKED) && is_between(FORKED - 1, FORKED + 1))
+        faults.has_no_keys[1] = 1;
     if (has(KIND_KDC) && drawn(3) == 0)
         faults.has_no_tickets = drawn(2) == 0;
 }
@@ -144,6 +146,16 @@ static void stop_one(int party)
     ends_stop(party, (int)drawn(2), now + drawn(3000) * MILLISECOND);
 }
 
+/* It is stopped, and wakes. */
+static void hold_one(int party)
+{
+    if (!world.is_up[party])
+        return;
+    happened(KIND_STOPPED, 1);
+    world.stops++;
+    world.resumes[party] = now + drawn(6000) * MILLISECOND;
+}
+
 /* Receivers come back after a while: so receipts of a fork come late. */
 static void hold_receivers(void)
 {
@@ -172,6 +184,8 @@ static void stop_programs(void)
         stop_one(SENDER);
         stop_one(RECEIVER + (int)drawn(RECEIVERS));
     }
+    if (has(KIND_STOPPED) && drawn(2) == 0)
+        hold_one(SENDER + (int)drawn(PARTIES - SENDER));
     if (has(KIND_FORKED) && has(KIND_KILLED) && is_between(FORKED, FORKED_UNTIL))
         hold_receivers();
     if (has(KIND_BOUNDED))
@@ -251,7 +265,7 @@ static void forbid(const sqlite3_int64 next[MOST_NAMES], const char sealed[MOST_
         if (next[i] <= next_of_copy[i] && !is_stream(i))
             continue;
         it->has_advanced = it->is_struck = 1;
-        if (sealed[i] || !frames_have_receipt(i) || is_stream(i))
+        if (sealed[i] || !frames_receipts_kept(i) || is_stream(i))
             continue;
         it->is_forbidden = 1;
         it->forbidden_from = it->serials;

@@ -86,18 +86,13 @@ void frames_purge(void)
     happened(KIND_PURGED, 1);
 }
 
-int frames_have_receipt(unsigned name)
+unsigned frames_receipts_kept(unsigned name)
 {
+    unsigned number = 0;
     size_t i;
     for (i = 0; i < receipts.count; i++)
-        if (name_of(receipts.at[i].session) == name)
-            return 1;
-    return 0;
-}
-
-size_t frames_receipts_kept(void)
-{
-    return receipts.count;
+        number += name_of(receipts.at[i].session) == name;
+    return number;
 }
 
 unsigned long frames_published(unsigned name)

@@ -12,6 +12,7 @@
     X(CUT, "cut", "shards that lost their last frames, which were confirmed") \
     X(PURGED, "purged", "times that the kept receipts were purged") \
     X(KILLED, "killed", "programs that were stopped, or killed within a call") \
+    X(STOPPED, "stopped", "programs that were stopped for some seconds, and went on") \
     X(DATABASE, "database", "calls of SQLite that failed, drawn one by one") \
     X(STATEMENT, "statement", "calls of one statement, or of one table, that failed") \
     X(UNREADABLE, "unreadable", "reads of the table frame that failed") \

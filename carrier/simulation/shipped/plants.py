@@ -125,6 +125,10 @@ EDITS = {
     return turn == o->turn ? OUTBOX_OK : OUTBOX_TAKEN;
 """, """\
     return turn >= o->turn ? OUTBOX_OK : OUTBOX_TAKEN;
+"""), ("outbox.c", """\
+DO UPDATE SET next = ?1 WHERE next = ?3"),
+""", """\
+DO UPDATE SET next = ?1 WHERE ?3 IS NOT NULL"),
 """)],
     "an opening leaves before the session before is carried": [("publish.c", """\
 (!tickets_have(s->tickets) || sender_is_after(s, it));
@@ -171,7 +175,7 @@ WHERE stream = ?1 AND turn < ?2 LIMIT ?3"),
     "numbers aren't compared beside the owner": [("outbox.c", """\
 DO UPDATE SET next = ?1 WHERE next = ?3"),
 """, """\
-DO UPDATE SET next = ?1"),
+DO UPDATE SET next = ?1 WHERE ?3 IS NOT NULL"),
 """)],
 }
 

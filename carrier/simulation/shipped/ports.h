@@ -36,12 +36,11 @@ unsigned name_of(const char *session);
 
 void frames_begin(void);
 
-/* A shard is another list from now on; its last frames are gone; the kept receipts are gone; whether one is kept. */
+/* A shard is another list from now on; its last frames are gone; the kept receipts are gone; of how many sessions of a name one is kept. */
 void frames_delete(unsigned shard);
 void frames_cut(unsigned shard, unsigned count);
 void frames_purge(void);
-int frames_have_receipt(unsigned name);
-size_t frames_receipts_kept(void); /* of how many sessions */
+unsigned frames_receipts_kept(unsigned name);
 
 /* Frames that were published of a name; how often the one of a number of its session was. */
 unsigned long frames_published(unsigned name);

@@ -194,8 +194,11 @@ static int take_said(void *given, int count, char **values, char **names)
         return 0;
     it->stands = (unsigned)strtoul(values[2], NULL, 10);
     it->said |= values[1] != NULL ? SAID_TO_BE_STOPPED : SAID_TO_STAND;
-    if (values[1] != NULL && (strstr(values[1], "this outbox") != NULL || strstr(values[1], "older") != NULL))
-        it->was_stopped = 1;
+    if (values[1] == NULL || (strstr(values[1], "this outbox") == NULL && strstr(values[1], "older") == NULL))
+        return 0;
+    it->was_stopped = 1;
+    if (!it->is_struck && !has(KIND_RESTORED))
+        rule_broken(RULE_UNTRUE, "s%u is stopped as one of an older or another outbox, and there is none", name);
     return 0;
 }
 
@@ -310,7 +313,7 @@ static void look_at_calls(void)
 static void look_at_runs(unsigned name)
 {
     const struct poison *poison = effects_first_poison();
-    unsigned long causes = faults.of_stores + world.kills + world.ends;
+    unsigned long causes = faults.of_stores + world.kills + world.stops + world.ends;
     unsigned long most = EFFECTS + EFFECTS_OF_A_FAULT * (has(KIND_SLOW_EFFECTS) ? causes - world.kills : causes);
     unsigned i;
     if (poison != NULL && poison->name == name)
@@ -371,6 +374,7 @@ static int take_number(void *given, int count, char **values, char **names)
 static void look_at_rest(void)
 {
     unsigned long frames = 0, sealed = 0, opened = 0;
+    unsigned name;
     (void)box_run(&world.boxes[0], "SELECT count(*) FROM frame", take_number, &frames); /* they can be read */
     (void)box_run(&world.boxes[0], "SELECT count(*) FROM sealed", take_number, &sealed);
     (void)box_run(&world.boxes[0], "SELECT max(many) FROM (SELECT count(*) AS many FROM opened GROUP BY stream)", take_number,
@@ -379,8 +383,9 @@ static void look_at_rest(void)
         rule_broken(RULE_KEPT, "the outbox has %lu frames and %lu texts of what took effect", frames, sealed);
     if (opened > OPENED && !has(KIND_SKEWED) && !has(KIND_SILENT))
         rule_broken(RULE_KEPT, "the outbox has %lu sessions of a stream", opened);
-    if (frames_receipts_kept() > world.names * OPENED && !has(KIND_SKEWED) && !has(KIND_SILENT))
-        rule_broken(RULE_KEPT, "the carrier has receipts of %lu sessions", (unsigned long)frames_receipts_kept());
+    for (name = 0; name < world.names && !has(KIND_SKEWED) && !has(KIND_SILENT); name++)
+        if (frames_receipts_kept(name) > OPENED)
+            rule_broken(RULE_KEPT, "the carrier has receipts of %u sessions of s%u", frames_receipts_kept(name), name);
 }
 
 /* The carrier confirms what it takes at once: the rest is under way. */

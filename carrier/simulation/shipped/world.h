@@ -7,8 +7,9 @@
 
 #include <sqlite3.h>
 
-/* Seconds: faults; all has to be done, or told, after them; and soon. In a calm run applications put texts in for so long. */
-enum { DISTURBED = 60, FAIR = 400, PUNCTUAL = 100, CALM = 36 };
+/* Seconds: faults; all has to be done, or told, after them; and soon. In a calm run applications put texts in for so long; when the
+ * outbox is copied for a second sender. */
+enum { DISTURBED = 60, FAIR = 400, PUNCTUAL = 100, CALM = 36, FORKED = 20 };
 enum { PATHS = 300, BOXES = 2 };
 
 /* ---- Texts */
@@ -50,7 +51,7 @@ struct world {
     char folder[PATHS - 40];
     int may_run[PARTIES], is_up[PARTIES], was_taken[SENDERS];
     uint64_t resumes[PARTIES];
-    unsigned long steps, kills, ends, full; /* ends: of programs by themselves; full: texts that an outbox refused */
+    unsigned long steps, kills, stops, ends, full; /* ends: of programs by themselves; full: texts that an outbox refused */
     int is_flooded;                 /* the run ends, since it would take too long */
 };
 extern struct world world;
