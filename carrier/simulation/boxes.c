@@ -69,13 +69,13 @@ static void put_many(struct box *it)
     if (!is_first && (has(KIND_SILENT) || world.second != MANY_SECOND))
         return;
     for (name = is_first ? 0 : half; name < (is_first && !has(KIND_SILENT) ? half : world.names); name++)
-        for (i = 0; i < OF_MANY; i++)
+        for (i = 0; i < limited(LIMIT_TEXTS, OF_MANY); i++)
             box_put(it, name);
 }
 
 void box_put_some(struct box *it)
 {
-    unsigned name = drawn(world.names), most = has(KIND_BURSTS) ? MOST_OF_BURSTS : MOST, count;
+    unsigned name = drawn(world.names), most = limited(LIMIT_TEXTS, has(KIND_BURSTS) ? MOST_OF_BURSTS : MOST), count;
     int is_burst = has(KIND_BURSTS) && drawn(8) == 0;
     if (has(KIND_MANY)) {
         put_many(it);

@@ -440,9 +440,9 @@ static void set_clocks(void)
 
 void events_second(void)
 {
-    if (has(KIND_LATER) && world.second == DISTURBED + LATER_BY)
+    if (has(KIND_LATER) && world.second == world.disturbed + LATER_BY)
         ends_use_sessions(0); /* which has the line that was missing */
-    if (world.second >= DISTURBED)
+    if (world.second >= world.disturbed)
         return;
     draw_chances();
     lose_one();

@@ -1,4 +1,5 @@
-/* The kinds of faults of a run, and of what makes a run another one. A profile is the names of some, joined by '+'. */
+/* The kinds of faults of a run, and of what makes a run another one. A profile is the names of some, joined by '+', and
+ * perhaps limits, as `texts=5`, which make a run smaller. */
 #ifndef KINDS_H
 #define KINDS_H
 
@@ -51,6 +52,14 @@ enum kind { KINDS(KIND_VALUE) KIND_COUNT };
 
 /* Whether this run has the kind. */
 int has(enum kind kind);
+
+/* Limits: of sessions, of each one's texts, and of the seconds in which faults happen. */
+#define LIMITS(X) X(NAMES, "names") X(TEXTS, "texts") X(SECONDS, "seconds")
+#define LIMIT_VALUE(name, word) LIMIT_##name,
+enum limit { LIMITS(LIMIT_VALUE) LIMIT_COUNT };
+
+/* This number, or the limit if that is less. */
+unsigned limited(enum limit limit, unsigned number);
 
 /* Whether the run has only kinds after which it is known how often each frame leaves, and when. */
 int is_calm(void);

@@ -11,15 +11,16 @@
 #include <sys/wait.h>
 #include <unistd.h>
 
-enum { FEW = 6, LOTS = 210, MOST_BESIDES = 3 };
+enum { FEW = 6, LOTS = 210, MOST_BESIDES = 3, SHORT_REST = 5 /* seconds */ };
 
 static const char usage[] =
     "simulation FOLDER PROFILE FIRST COUNT [BESIDES]\n"
     "  FOLDER   for the databases of each run: it is emptied\n"
-    "  PROFILE  the kinds of faults, joined by '+'; kinds.h has them\n"
+    "  PROFILE  the kinds of faults and limits, joined by '+'; kinds.h has them\n"
     "  BESIDES  kinds of which each seed draws none to two besides\n"
     "It prints a line for each rule that a seed breaks, and the command that repeats it; then how often\n"
-    "each kind of fault happened. The variable SIMULATION_LOG has the programs log. Status: 1 if a seed fails.\n";
+    "each kind of fault happened. The variable SIMULATION_LOG has the programs log, and SIMULATION_PLANT\n"
+    "names a fault that is planted (engine.h). Status: 1 if a seed fails.\n";
 
 struct world world;
 struct faults faults;
@@ -81,7 +82,8 @@ static void begin_world(uint64_t seed)
     draw_kinds(seed);
     empty_folder();
     world.seed = seed;
-    world.names = has(KIND_MANY) ? LOTS : FEW;
+    world.disturbed = limited(LIMIT_SECONDS, DISTURBED);
+    world.names = limited(LIMIT_NAMES, has(KIND_MANY) ? LOTS : FEW);
     for (i = 0; i < world.names; i++)
         world.name[i].shard = has(KIND_MANY) ? 0 : i % SHARDS;
 }
@@ -102,7 +104,7 @@ static void begin(uint64_t seed)
 static void put_texts(void)
 {
     unsigned i;
-    if (world.second >= (is_calm() ? CALM : DISTURBED))
+    if (world.second >= (is_calm() && CALM < world.disturbed ? CALM : world.disturbed))
         return;
     box_put_some(&world.boxes[0]);
     if (!world.boxes[1].is_used)
@@ -119,7 +121,7 @@ static void pass_second(void)
     world.second++;
     events_second();
     put_texts();
-    if (world.second == DISTURBED)
+    if (world.second == world.disturbed)
         events_end();
     rules_second();
 }
@@ -134,8 +136,8 @@ static void step_all(void)
 
 static int is_done(void)
 {
-    return world.is_flooded || world.second >= DISTURBED + FAIR
-           || (world.second >= DISTURBED + (is_calm() ? 30u : 5u) && box_is_done(&world.boxes[0]));
+    return world.is_flooded || world.second >= world.disturbed + FAIR
+           || (world.second >= world.disturbed + (is_calm() ? REST : SHORT_REST) && box_is_done(&world.boxes[0]));
 }
 
 static void end(void)

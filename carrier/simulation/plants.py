@@ -1,6 +1,5 @@
 """Faults that are planted in the shipped programs, beside carrier/tests/mutants.py: in each edit the file, the text that
-stands there once, and what takes its place; those around the calls of krb_engine (engine.h); and the profile, the seed
-and the rule that find each."""
+stands there once, and what takes its place. Those around the calls of krb_engine are engine.h's."""
 
 EDITS = {
     "digests aren't compared": [("sender_receipts.c", """\
@@ -179,11 +178,66 @@ DO UPDATE SET next = ?1 WHERE ?3 IS NOT NULL"),
 """)],
 }
 
+# Which profile, seed and rule finds each, also those of engine.h.
 FOUND = {
     "digests aren't compared": ("forked+killed", 1, "LOST"),
     "a receipt above the next number is no receipt": ("restored", 1, "LEFT_OUT"),
+    "receipts leave before the commit": ("uncommitted", 1, "LOST"),
+    "what was dropped stays": ("uncommitted", 1, "LOST"),
     "an early frame is taken for nobody's": ("cut", 1, "STANDS"),
     "a repeat is taken for nobody's": ("lost+killed", 1, "STANDS"),
-    "a failed text is put aside at once": ("refused_a_while+aside", 2, "ASIDE_EARLY"),
+    "a refused frame is taken for nobody's": ("skewed", 1, "UNTRUE"),
+    "a frame is accepted at any number": ("lost", 1, "OVERTAKEN"),
+    "one item in a read is skipped": ("calm", 1, "LATE"),
+    "the session before is looked for once": ("tickets+keys", 1, "STANDS"),
+    "a second session after one is stored": ("forked+tickets+keys", 1, "DOUBLED"),
+    "rows aren't compared": ("moved+stopped+bursts", 5, "DOUBLED"),
+    "frames leave before they are stored": ("uncommitted", 1, "STANDS"),
+    "after a fault of the outbox nothing is loaded again": ("outbox_unknown", 1, "UNTOLD"),
+    "an outbox takes transactions of two senders": ("taken_over", 1, "UNTRUE"),
+    "an opening leaves before the session before is carried": ("calm+tickets", 3, "UNTRUE"),
+    "a failed text is put aside at once": ("refused_a_while+aside", 1, "ASIDE_EARLY"),
     "a failed text is never put aside": ("refused+aside", 1, "NOT_ASIDE"),
+    "a session is forgotten before the next one has begun": ("tickets+killed+carrier", 1, "STANDS"),
+    "frames that are done stay": ("calm", 1, "KEPT"),
+    "sessions that have ended stay": ("calm+tickets", 2, "KEPT"),
+    "receipts of sessions that have ended stay": ("calm+tickets", 2, "KEPT"),
+    "a probe never has the opening": ("tickets+keys", 1, "STANDS"),
+    "pauses don't grow": ("silent", 1, "FLOOD"),
+    "last in, first out": ("many+carrier", 1, "UNFAIR"),
+    "a list that was cut off is waited for": ("cut", 4, "STANDS"),
+    "an opening is taken on any history": ("forked+killed+tickets", 7, "OVERTAKEN"),
+    "an opening is taken before the close before it": ("cut+killed+slow+tickets", 2, "OVERTAKEN"),
+    "another session of a turn that was had begins": ("cut+killed+slow+tickets", 8, "OVERTAKEN"),
+    "the window stays after a silence": ("silent+bursts", 1, "FLOOD"),
+    "a refused frame isn't held": ("skewed", 1, "UNTRUE"),
+    "the pause of asks doesn't grow": ("skewed", 1, "FLOOD"),
+    "the first probe comes after 300 s": ("calm", 2, "UNTRUE"),
+    "the first repeat comes after 64 s": ("calm", 2, "LATE"),
+    "one frame is under way at most": ("calm+bursts", 1, "LATE"),
+    "a shard has no bound": ("many+silent", 1, "CROWDED"),
+    "receipts have no pause between them": ("calm+bursts", 1, "CHATTER"),
+    "all sessions are said to stand": ("calm", 1, "UNTRUE"),
+    "all frames leave at once after one was asked for": ("skewed", 1, "FLOOD"),
+}
+
+# Those for which another rule makes up: which, and profiles of which the first five seeds break no rule.
+MADE_UP = {
+    "confirmed counts out of order": (
+        "the receiver misses the frame and asks for it", ("lost+killed", "carrier+killed", "lost+tickets", "calm")),
+    "a confirmation counts at any offset": (
+        "the receiver misses the frame and asks for it", ("lost+killed", "carrier+killed", "cut+deleted+lost", "calm")),
+    "another list: goes on at what was carried": (
+        "the receiver misses the frame and asks for it", ("deleted", "deleted+tickets", "cut+deleted", "moved")),
+    "another list is read from where the last one was": (
+        "the receiver misses the frame and asks for it", ("deleted", "deleted+tickets", "cut+deleted", "deleted+killed+purged")),
+    "offsets aren't compared": (
+        "rows are: each frame that is accepted changes one", ("carrier+killed+lost", "lost+stopped", "killed+slow", "bursts+stopped")),
+    "the session before isn't compared": (
+        "only receivers of its shard go on with it, and each moves the shard's offset, which is compared",
+        ("lost+tickets", "keys+tickets", "cut+killed+slow+tickets", "copied+stopped+tickets")),
+    "owed receipts are dropped where the carrier is away": (
+        "the sender probes, and a repeat owes one", ("carrier", "carrier+killed", "bursts+carrier", "carrier+lost")),
+    "numbers aren't compared beside the owner": (
+        "the owner is", ("taken_over", "killed+taken_over", "outbox_unknown", "stopped+taken_over")),
 }

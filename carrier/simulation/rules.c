@@ -137,23 +137,32 @@ static int take_elsewhere(void *given, int count, char **values, char **names)
     return 0;
 }
 
-/* Lines move between shards of one file alone. */
+/* A shard's store, or that of all; NULL if there is none yet. */
+static sqlite3 *store_of(unsigned shard)
+{
+    static sqlite3 *stores[SHARDS];
+    char file[TEXT], path[PATHS];
+    (void)snprintf(file, sizeof file, has_one_store() ? "store.db" : "store-%u.db", shard);
+    path_of(path, file);
+    if (stores[shard] == NULL && sqlite3_open_v2(path, &stores[shard], SQLITE_OPEN_READONLY, NULL) != SQLITE_OK) {
+        (void)sqlite3_close(stores[shard]); /* no statement is left */
+        stores[shard] = NULL;
+    }
+    return stores[shard];
+}
+
 static void look_at_effects(void)
 {
-    char file[TEXT], path[PATHS];
     unsigned i;
     for (i = 0; i < (has_one_store() ? 1u : (unsigned)SHARDS); i++) {
-        sqlite3 *db = NULL;
-        (void)snprintf(file, sizeof file, has_one_store() ? "store.db" : "store-%u.db", i);
-        path_of(path, file);
-        if (sqlite3_open_v2(path, &db, SQLITE_OPEN_READONLY, NULL) == SQLITE_OK) {
-            look_at_table(db, "aside", &last_aside[i], take_asides);
-            look_at_table(db, "effect", &last_effect[i], take_effects);
-            if (has(KIND_COPIED))
-                (void)sqlite3_exec(db, "SELECT name FROM session JOIN opened USING (name) WHERE session.shard !="
-                                   " opened.shard", take_elsewhere, NULL, NULL); /* the tables may not be there yet */
-        }
-        (void)sqlite3_close(db); /* no statement is left */
+        sqlite3 *db = store_of(i);
+        if (db == NULL)
+            continue;
+        look_at_table(db, "aside", &last_aside[i], take_asides);
+        look_at_table(db, "effect", &last_effect[i], take_effects);
+        if (has(KIND_COPIED))
+            (void)sqlite3_exec(db, "SELECT name FROM session JOIN opened USING (name) WHERE session.shard !="
+                               " opened.shard", take_elsewhere, NULL, NULL); /* the tables may not be there yet */
     }
 }
 
@@ -245,7 +254,7 @@ static void look_at_sessions(const struct box *of, unsigned name)
 static void look_at_undone(unsigned name, unsigned undone, int is_end)
 {
     const struct name *it = &world.name[name];
-    if (undone > 0 && world.second == DISTURBED + PUNCTUAL && !it->is_struck)
+    if (undone > 0 && world.second == world.disturbed + PUNCTUAL && !it->is_struck)
         rule_broken(RULE_LATE, "s%u has %u texts without effect after %d fair seconds, and nothing was done to it", name,
                     undone, PUNCTUAL);
     if (undone == 0 || !is_end)
@@ -449,8 +458,8 @@ void rules_second(void)
 
 void rules_end(void)
 {
-    look_at_boxes(1, world.second >= DISTURBED + FAIR);
+    look_at_boxes(1, world.second >= world.disturbed + FAIR);
     look_at_refused();
-    if (is_calm() && world.second < DISTURBED + FAIR)
+    if (is_calm() && world.second < world.disturbed + FAIR)
         look_at_rest();
 }

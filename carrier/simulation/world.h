@@ -7,9 +7,9 @@
 
 #include <sqlite3.h>
 
-/* Seconds: faults; all has to be done, or told, after them; and soon. In a calm run applications put texts in for so long; when the
- * outbox is copied for a second sender. */
-enum { DISTURBED = 60, FAIR = 400, PUNCTUAL = 100, CALM = 36, FORKED = 20 };
+/* Seconds after the faults, in which all has to be done, or told, and soon; in which applications put texts in, in a calm run;
+ * after which a calm run ends; and when the outbox is copied for a second sender. */
+enum { DISTURBED = 60, FAIR = 400, PUNCTUAL = 100, CALM = 36, REST = 30, FORKED = 20 };
 enum { PATHS = 300, BOXES = 2 };
 
 /* ---- Texts */
@@ -45,6 +45,7 @@ struct name {
 
 struct world {
     uint64_t seed, second;
+    unsigned disturbed;    /* so many seconds have faults */
     unsigned names, shown, others; /* so many lines has the file of sessions, of the names (0: all) and of others */
     struct name name[MOST_NAMES];
     struct box boxes[BOXES], saved;

@@ -1,6 +1,6 @@
 """Drawn runs of the shipped sender and receivers (carrier/simulation): no profile of the gate breaks a rule, each
 kind of fault happens in them, and each mutant and planted fault is found, where the tree as it is breaks no such
-rule."""
+rule, or another rule makes up for it."""
 import os
 import re
 
@@ -10,7 +10,7 @@ from lib import scripts
 from lib.build import building
 
 simulate = scripts.load("carrier/simulation/simulate")
-profiles = simulate.profiles
+profiles, plants = simulate.profiles, simulate.plants
 JOBS = min(2, os.cpu_count() or 1)
 KINDS = dict(re.findall(r'X\(\w+, "(\w+)", "(.*?)"\)', building.text_of("carrier/simulation/kinds.h")))
 SANITIZED = [profiles.Row("lost+killed+memory", 2), profiles.Row("restored+deleted", 1), profiles.Row("refused_a_while", 1)]
@@ -55,18 +55,24 @@ def test_sanitizers_find_nothing(program):
 
 
 def test_each_mutant_is_in_the_table():
-    """But for those of real openings, of NATS, and of frames that somebody copies into another shard."""
+    """But for those of real openings and of NATS."""
     edits = simulate.mutants.EDITS | simulate.mutants.TICKET_EDITS
-    assert set(profiles.MUTANTS) == {it for it, edit in edits.items() if edit[0] not in {
-        "nats_publisher.c", "opening.c", "shard_open.c"}}
+    assert set(profiles.MUTANTS) == {it for it, edit in edits.items() if edit[0] not in {"nats_publisher.c", "opening.c"}}
 
 
-def test_each_planted_fault_is_in_the_table():
-    assert set(simulate.plants.EDITS) == set(simulate.plants.FOUND)
+def test_each_planted_fault_is_in_a_table():
+    engine = simulate.engine_plants()
+    assert len(engine) > 20 and set(engine) | set(plants.EDITS) == set(plants.FOUND) | set(plants.MADE_UP)
+    assert not set(plants.FOUND) & set(plants.MADE_UP)
 
 
-@pytest.mark.parametrize("name", profiles.MUTANTS | simulate.plants.FOUND)
+@pytest.mark.parametrize("name", profiles.MUTANTS | plants.FOUND)
 def test_a_mutant_is_found(program, name):
-    profile, seed, rule = (profiles.MUTANTS | simulate.plants.FOUND)[name]
+    profile, seed, rule = (profiles.MUTANTS | plants.FOUND)[name]
     assert simulate.finds_mutant(simulate.library(), name)
     assert rule not in simulate.breaks(program, profile, seed)
+
+
+@pytest.mark.parametrize("name", plants.MADE_UP)
+def test_another_rule_makes_up(name):
+    assert simulate.breaks_made_up(simulate.library(), name) == set()
