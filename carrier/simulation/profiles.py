@@ -10,10 +10,11 @@ FEW = "lost,killed,slow,memory"
 
 
 class Row(typing.NamedTuple):
-    """So many seeds from the first on, with kinds besides."""
+    """So many seeds, with kinds besides."""
     profile: str
     seeds: int
     besides: str = ""
+    first: int = 1
 
 
 # What the gate runs, each seed of it without a fault.
@@ -53,7 +54,7 @@ PASSES = [
     Row("restored+tickets", 3),                 # a stream's session that is refused counted as a carrier that is away
     Row("lost+slow+tickets+keys+kdc", 5),       # so did sessions that wait for the one before them
     Row("outbox_unknown", 4),                   # a commit that happened and said no left sessions standing, untold
-    Row("forked+tickets+keys", 12),             # where a key was tried again, stopped sessions weren't named any more
+    Row("forked+tickets+keys", 1, "", 12),            # where a key was tried again, stopped sessions weren't named any more
     # Bounds of time and growth.
     Row("calm", 6),
     Row("calm+bursts", 3),
@@ -66,6 +67,7 @@ PASSES = [
     Row("uncommitted", 5, MANY),
     Row("moved+stopped", 5, FEW),
     Row("copied+tickets", 5, FEW),
+    Row("taken_over", 3, FEW),
 ]
 
 # Kinds that are drawn together where any are drawn.
@@ -77,8 +79,8 @@ GROUPS = [
     "tickets+keys", "tickets+kdc", "tickets+keys+kdc+killed", "many+carrier", "bursts+carrier", "bursts", "calm", "silent", "skewed",
     "copied+tickets",
 ]
-# Of these a run has one: a second sender, or what refuses all frames, or a shard's room.
-CONFLICTS = [("restored", "forked", "taken_over"), ("clock", "skewed"), ("many", "bursts"), ("row_gone", "row_spoilt"),
+# Of these a run has one: a second sender, wrong clocks, many texts or slow effects, rows, refused texts.
+CONFLICTS = [("restored", "forked", "taken_over"), ("clock", "skewed"), ("many", "bursts", "slow_effects"), ("row_gone", "row_spoilt"),
              ("refused", "refused_many", "refused_a_while")]
 
 

@@ -441,7 +441,7 @@ void rules_second(void)
 {
     unsigned i;
     look_at_effects();
-    look_at_boxes(world.second % LOOKED_EACH == 0 || has(KIND_FORKED), 0);
+    look_at_boxes(world.second % LOOKED_EACH == 0 || (has(KIND_FORKED) && world.second < world.disturbed), 0);
     for (i = 0; i < world.names; i++) {
         look_at_frames(i);
         look_at_runs(i);

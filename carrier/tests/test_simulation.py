@@ -43,7 +43,7 @@ def test_each_kind_is_in_a_table():
 
 
 def test_a_run_is_repeated_by_its_seed(program):
-    once, again, other = (simulate.run(program, [profiles.Row("lost+killed+memory", 2)], first=first)
+    once, again, other = (simulate.run(program, [profiles.Row("lost+killed+memory", 2, "", first)])
                           for first in (7, 7, 8))
     assert (once.counts, once.steps) == (again.counts, again.steps) != (other.counts, other.steps)
 
