@@ -153,6 +153,8 @@ static void hold_one(int party)
         return;
     happened(KIND_STOPPED, 1);
     world.stops++;
+    if (is_sender(party))
+        faults.carrier_at = now; /* it hears of no confirmation */
     world.resumes[party] = now + drawn(6000) * MILLISECOND;
 }
 
@@ -395,7 +397,7 @@ static void poison(unsigned name, unsigned count, int is_error, uint64_t until)
     for (i = count; i > 0; i--)
         effects_poison((struct poison){ name, world.name[name].serials + i - 1, is_error, until });
     for (i = 0; i < world.names && until == NEVER; i++)
-        if (i == name || (!has(KIND_ASIDE) && world.name[i].shard == world.name[name].shard))
+        if (i == name || (!has(KIND_ASIDE) && (has(KIND_MOVED) || world.name[i].shard == world.name[name].shard)))
             world.name[i].is_struck = 1;
 }
 

@@ -11,7 +11,7 @@
 #include <sys/wait.h>
 #include <unistd.h>
 
-enum { FEW = 6, LOTS = 210, MOST_BESIDES = 3, SHORT_REST = 5 /* seconds */ };
+enum { FEW = 6, LOTS = 210, MOST_BESIDES = 3, SHORT_REST = 5, CALM_REST = 15 /* seconds */ };
 
 static const char usage[] =
     "simulation FOLDER PROFILE FIRST COUNT [BESIDES]\n"
@@ -134,10 +134,14 @@ static void step_all(void)
             ends_step(party);
 }
 
+/* In a calm run the last receipts come before it ends. */
 static int is_done(void)
 {
+    if (is_calm() && !box_is_done(&world.boxes[0]))
+        world.rests = world.second + CALM_REST;
     return world.is_flooded || world.second >= world.disturbed + FAIR
-           || (world.second >= world.disturbed + (is_calm() ? REST : SHORT_REST) && box_is_done(&world.boxes[0]));
+           || (world.second >= world.disturbed + (is_calm() ? REST : SHORT_REST) && world.second >= world.rests
+               && box_is_done(&world.boxes[0]));
 }
 
 static void end(void)

@@ -79,8 +79,8 @@ GROUPS = [
     "tickets+keys", "tickets+kdc", "tickets+keys+kdc+killed", "many+carrier", "bursts+carrier", "bursts", "calm", "silent", "skewed",
     "copied+tickets",
 ]
-# Of these a run has one: a second sender, wrong clocks, many texts or slow effects, rows, refused texts.
-CONFLICTS = [("restored", "forked", "taken_over"), ("clock", "skewed"), ("many", "bursts", "slow_effects"), ("row_gone", "row_spoilt"),
+# Of these a run has one: a second sender, wrong clocks (or frames that are gone besides), many texts or slow effects, rows, refused texts.
+CONFLICTS = [("restored", "forked", "taken_over"), ("clock", "skewed", "cut"), ("many", "bursts", "slow_effects"), ("row_gone", "row_spoilt"),
              ("refused", "refused_many", "refused_a_while")]
 
 

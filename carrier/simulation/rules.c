@@ -17,7 +17,7 @@ enum {
     UNHEALTHY = 12, UNSEEN = 5,                                   /* seconds */
     LOOKED_EACH = 5, TRIES = 3,
     UNDER_WAY = 2048, PROMPT = 12,                                /* frames of a shard; seconds of a text in a calm run, .. */
-    TIMES = 9, AGAIN = 2, MOST_AGAIN = 24,                        /* .. how often a frame leaves, and most of them; */
+    TIMES = 9, AGAIN = 3, MOST_AGAIN = 24,                        /* .. how often a frame leaves, and most of them; */
     RECEIPTS = 12, OPENED = 4,                                               /* of a session in a second; */
     REFUSED_FROM = 20, REFUSED_UNTIL = 58, CALM_FROM = 5, CALM_UNTIL = 20 /* what has to be said in these seconds */
 };
@@ -254,7 +254,8 @@ static void look_at_sessions(const struct box *of, unsigned name)
 static void look_at_undone(unsigned name, unsigned undone, int is_end)
 {
     const struct name *it = &world.name[name];
-    if (undone > 0 && world.second == world.disturbed + PUNCTUAL && !it->is_struck)
+    int may_be_late = it->is_struck || (is_stream(name) && has(KIND_KEYS)); /* a key is tried again after some minutes */
+    if (undone > 0 && world.second == world.disturbed + PUNCTUAL && !may_be_late)
         rule_broken(RULE_LATE, "s%u has %u texts without effect after %d fair seconds, and nothing was done to it", name,
                     undone, PUNCTUAL);
     if (undone == 0 || !is_end)
@@ -337,14 +338,14 @@ static void look_at_runs(unsigned name)
 
 static void look_at_repeats(unsigned name)
 {
-    unsigned i, again = 0;
+    unsigned i, again = 0, most = has(KIND_SKEWED) ? AGAIN - 1 : AGAIN;
     for (i = 1; i < world.name[name].serials; i++) {
-        again += frames_left(name, i) > AGAIN;
+        again += frames_left(name, i) > most;
         if (frames_left(name, i) > TIMES)
             rule_broken(RULE_FLOOD, "s%u: frame %u left %u times in a calm run", name, i, frames_left(name, i));
     }
     if (again > MOST_AGAIN)
-        rule_broken(RULE_FLOOD, "s%u: %u frames left more than twice in a calm run", name, again);
+        rule_broken(RULE_FLOOD, "s%u: %u frames left more than %u times in a calm run", name, again, most);
 }
 
 /* Whether the outbox says of a session what is so. */
@@ -417,7 +418,7 @@ static void look_at_health(void)
         rule_broken(RULE_AWAY, "the sender says that nothing is confirmed, by a carrier that works");
     if (world.is_up[SENDER] && has_had_time && now > said.worked_at + UNHEALTHY * SECOND)
         rule_broken(RULE_UNHEALTHY, "the sender hasn't been healthy for %d s, by a carrier that works", UNHEALTHY);
-    unseen = world.full > 0 ? unseen + 1 : 0;
+    unseen = world.full > 0 && world.is_up[SENDER] && !has_been_faulty() && !world.boxes[1].is_used ? unseen + 1 : 0;
     world.full = 0;
     if (unseen > UNSEEN && said.waiting < 0.9 * said.bound)
         rule_broken(RULE_FULL_UNSEEN, "the outbox refuses texts, and waiting_texts is %.0f of %.0f", said.waiting, said.bound);
