@@ -45,7 +45,7 @@ struct name {
 
 struct world {
     uint64_t seed, second;
-    unsigned disturbed, rests; /* so many seconds have faults; it ends no sooner */
+    uint64_t disturbed, rests; /* so many seconds have faults; it ends no sooner */
     unsigned names, shown, others; /* so many lines has the file of sessions, of the names (0: all) and of others */
     struct name name[MOST_NAMES];
     struct box boxes[BOXES], saved;
