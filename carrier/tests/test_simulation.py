@@ -13,7 +13,8 @@ simulate = scripts.load("carrier/simulation/simulate")
 profiles, plants = simulate.profiles, simulate.plants
 JOBS = min(2, os.cpu_count() or 1)
 KINDS = dict(re.findall(r'X\(\w+, "(\w+)", "(.*?)"\)', building.text_of("carrier/simulation/kinds.h")))
-SANITIZED = [profiles.Row("lost+killed+memory", 2), profiles.Row("restored+deleted", 1), profiles.Row("refused_a_while", 1)]
+SANITIZED = [profiles.Row(it, 1) for it in (
+    "lost+killed+memory", "restored+deleted", "refused_a_while", "calm+tickets", "moved+stopped+copied", "uncommitted")]
 
 
 def kinds_of(rows):
@@ -46,6 +47,14 @@ def test_a_run_is_repeated_by_its_seed(program):
     once, again, other = (simulate.run(program, [profiles.Row("lost+killed+memory", 2, "", first)])
                           for first in (7, 7, 8))
     assert (once.counts, once.steps) == (again.counts, again.steps) != (other.counts, other.steps)
+
+
+def test_a_seed_that_fails_is_made_smaller(program):
+    plant = "a probe never has the opening"
+    smaller = simulate.smaller(program, "lost+tickets+keys", 1, plant)
+    assert set(smaller.split("+")) >= {"tickets", "keys"} and "lost" not in smaller and "=" in smaller
+    assert "STANDS" in simulate.breaks(program, smaller, 1, plant=plant)
+    assert simulate.smaller(program, "lost+tickets+keys", 1) == "lost+tickets+keys"
 
 
 def test_sanitizers_find_nothing(program):
