@@ -151,7 +151,10 @@ WHERE stream = ?1 AND turn < ?2 - 1 AND NOT EXISTS"
 """, """\
 WHERE stream = ?1 AND turn < ?2 LIMIT ?3"),
 """)],
-    # What is never deleted, and what takes for ever.
+    "what was told is forgotten where a key is tried again": [("sender_sessions.c", """\
+s->left_tries > 0 && it->stopped_at == 0 &&""", """\
+s->left_tries > 0 &&""")],
+    # What is never deleted.
     "frames that are done stay": [("sender.c", """\
 (now.done > it->kept.done && outbox_drop_done(""", """\
 (now.done > it->kept.done && now.done == 0 && outbox_drop_done(""")],
@@ -195,7 +198,7 @@ FOUND = {
     "frames leave before they are stored": ("uncommitted", 1, "STANDS"),
     "after a fault of the outbox nothing is loaded again": ("outbox_unknown", 1, "UNTOLD"),
     "an outbox takes transactions of two senders": ("taken_over", 1, "UNTRUE"),
-    "offsets aren't compared": ("bursts+stopped", 3, "UNHEALTHY"),
+    "what was told is forgotten where a key is tried again": ("forked+tickets+keys", 12, "UNTOLD"),
     "an opening leaves before the session before is carried": ("calm+tickets", 3, "UNTRUE"),
     "a failed text is put aside at once": ("refused_a_while+aside", 1, "ASIDE_EARLY"),
     "a failed text is never put aside": ("refused+aside", 1, "NOT_ASIDE"),
@@ -232,6 +235,8 @@ MADE_UP = {
         "the receiver misses the frame and asks for it", ("deleted", "deleted+tickets", "cut+deleted", "moved")),
     "another list is read from where the last one was": (
         "the receiver misses the frame and asks for it", ("deleted", "deleted+tickets", "cut+deleted", "deleted+killed+purged")),
+    "offsets aren't compared": (
+        "rows are: each frame that is accepted changes one", ("carrier+killed+lost", "lost+stopped", "killed+slow", "bursts+stopped")),
     "the session before isn't compared": (
         "only receivers of its shard go on with it, and each moves the shard's offset, which is compared",
         ("lost+tickets", "keys+tickets", "cut+killed+slow+tickets", "copied+stopped+tickets")),
