@@ -81,8 +81,8 @@ void box_put_some(struct box *it)
         put_many(it);
         return;
     }
-    if (has(KIND_FORKED) && is_stream(world.names - 1))
-        name = world.second == FORKED - 1 ? world.names - 1 : name == world.names - 1 && world.second < FORKED ? 0 : name;
+    if (has(KIND_FORKED) && world.names > 1 && is_stream(world.names - 1) && world.second < FORKED)
+        name = world.second == FORKED - 1 ? world.names - 1 : name % (world.names - 1); /* it begins just before the copy */
     happened(KIND_BURSTS, is_burst != 0);
     (void)box_run(it, "BEGIN IMMEDIATE", NULL, NULL); /* a sender that writes is over before */
     for (count = is_burst ? BURST : 1 + drawn(TOGETHER); count > 0 && it->count[name] < most; count--)

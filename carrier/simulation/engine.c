@@ -39,15 +39,15 @@ static void lengthen(struct krbrelay_sending *end)
 }
 
 WRAPPED(enum krbrelay_answer, sending_load, struct krbrelay_sending *end, uint64_t next, uint64_t carried, uint64_t at,
-        uint64_t done, uint64_t list, uint64_t moment_now)
+        uint64_t done, uint64_t list, uint64_t at_now)
 {
-    enum krbrelay_answer answer = __real_krbrelay_sending_load(end, next, carried, at, done, list, moment_now);
+    enum krbrelay_answer answer = __real_krbrelay_sending_load(end, next, carried, at, done, list, at_now);
     lengthen(end);
     return answer;
 }
 
-WRAPPED(enum krbrelay_answer, sending_confirmed, struct krbrelay_sending *end, uint64_t number, uint64_t offset, uint64_t moment_now,
-        uint32_t *counts)
+WRAPPED(enum krbrelay_answer, sending_confirmed, struct krbrelay_sending *end, uint64_t number, uint64_t offset,
+        uint64_t at_now, uint32_t *counts)
 {
     struct krbrelay_progress *it = &end->progress;
     enum krbrelay_answer answer;
@@ -55,7 +55,7 @@ WRAPPED(enum krbrelay_answer, sending_confirmed, struct krbrelay_sending *end, u
         it->carried = number;
     if (plant == PLANT_ANY_OFFSET && offset <= it->at && offset > 0)
         it->at = offset - 1;
-    answer = __real_krbrelay_sending_confirmed(end, number, offset, moment_now, counts);
+    answer = __real_krbrelay_sending_confirmed(end, number, offset, at_now, counts);
     lengthen(end);
     return answer;
 }
@@ -70,10 +70,10 @@ WRAPPED(enum krbrelay_answer, sending_listed, struct krbrelay_sending *end, uint
 }
 
 WRAPPED(enum krbrelay_answer, sending_receipt, struct krbrelay_sending *end, const struct krbrelay_receipt *receipt,
-        const uint8_t own[KRBRELAY_HISTORY_SIZE], uint64_t moment_now, uint32_t *heard)
+        const uint8_t own[KRBRELAY_HISTORY_SIZE], uint64_t at_now, uint32_t *heard)
 {
     const struct krbrelay_sending before = *end;
-    enum krbrelay_answer answer = __real_krbrelay_sending_receipt(end, receipt, own, moment_now, heard);
+    enum krbrelay_answer answer = __real_krbrelay_sending_receipt(end, receipt, own, at_now, heard);
     lengthen(end);
     if (plant == PLANT_NOT_HELD_BACK)
         end->is_held = 0;
@@ -86,14 +86,14 @@ WRAPPED(enum krbrelay_answer, sending_receipt, struct krbrelay_sending *end, con
     return answer;
 }
 
-WRAPPED(enum krbrelay_answer, sending_serve, struct krbrelay_sending *end, uint64_t room, uint64_t moment_now,
+WRAPPED(enum krbrelay_answer, sending_serve, struct krbrelay_sending *end, uint64_t room, uint64_t at_now,
         struct krbrelay_command *command)
 {
     const struct krbrelay_sending before = *end;
     enum krbrelay_answer answer;
     if (plant == PLANT_NARROW)
         end->window = 1;
-    answer = __real_krbrelay_sending_serve(end, room, moment_now, command);
+    answer = __real_krbrelay_sending_serve(end, room, at_now, command);
     if (plant == PLANT_NO_OPENINGS)
         command->opening = 0;
     if (plant == PLANT_NO_PATIENCE) {
@@ -164,7 +164,8 @@ static uint32_t take_last(struct krbrelay_queue *queue, uint32_t *place)
 uint32_t __wrap_krbrelay_queue_serve(struct krbrelay_queue *queue, uint32_t *place)
 {
     struct lane *lane = lane_of(queue);
-    uint32_t is_served = plant == PLANT_LAST_FIRST ? take_last(queue, place) : __real_krbrelay_queue_serve(queue, place);
+    uint32_t is_served = plant == PLANT_LAST_FIRST ? take_last(queue, place)
+                                                   : __real_krbrelay_queue_serve(queue, place);
     lane->served += is_served;
     if (is_served && *place < PLACES && lane->served > lane->until[*place])
         rule_broken(RULE_UNFAIR, "a session's turn came after those of %llu others that waited for less long",
@@ -174,11 +175,12 @@ uint32_t __wrap_krbrelay_queue_serve(struct krbrelay_queue *queue, uint32_t *pla
 
 /* ---- A receiver */
 
-WRAPPED(enum krbrelay_answer, receiving_receipt, struct krbrelay_receiving *end, uint64_t moment_now, struct krbrelay_receipt *due)
+WRAPPED(enum krbrelay_answer, receiving_receipt, struct krbrelay_receiving *end, uint64_t at_now,
+        struct krbrelay_receipt *due)
 {
     if (plant == PLANT_RECEIPTS_AT_ONCE)
         end->paid.length = 0;
-    return __real_krbrelay_receiving_receipt(end, moment_now, due);
+    return __real_krbrelay_receiving_receipt(end, at_now, due);
 }
 
 WRAPPED(enum krbrelay_answer, reading_frames, struct krbrelay_reading *reading, uint64_t list, uint64_t last, uint64_t count,
@@ -191,7 +193,8 @@ WRAPPED(enum krbrelay_answer, reading_frames, struct krbrelay_reading *reading, 
     return __real_krbrelay_reading_frames(reading, list, last, count, read);
 }
 
-WRAPPED(enum krbrelay_answer, judge, const struct krbrelay_head *head, const struct krbrelay_opening *opening, uint32_t *judged)
+WRAPPED(enum krbrelay_answer, judge, const struct krbrelay_head *head, const struct krbrelay_opening *opening,
+        uint32_t *judged)
 {
     struct krbrelay_head of = *head;
     struct krbrelay_opening it = *opening;

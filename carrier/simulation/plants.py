@@ -154,6 +154,17 @@ WHERE stream = ?1 AND turn < ?2 LIMIT ?3"),
     "what was told is forgotten where a key is tried again": [("sender_sessions.c", """\
 s->left_tries > 0 && it->stopped_at == 0 &&""", """\
 s->left_tries > 0 &&""")],
+    "a receiver idles for some minutes": [("shard.c", """\
+    forget_ended(s);
+    look_at_store(s);
+""", """\
+    forget_ended(s);
+    if (nanoseconds() > 30 * SECOND && nanoseconds() < 500 * SECOND) {
+        pause_milliseconds((unsigned)milliseconds);
+        return 0;
+    }
+    look_at_store(s);
+""")],
     # What is never deleted.
     "frames that are done stay": [("sender.c", """\
 (now.done > it->kept.done && outbox_drop_done(""", """\
@@ -203,6 +214,7 @@ FOUND = {
     "a failed text is put aside at once": ("refused_a_while+aside", 1, "ASIDE_EARLY"),
     "a failed text is never put aside": ("refused+aside", 1, "NOT_ASIDE"),
     "a session is forgotten before the next one has begun": ("tickets+killed+carrier", 1, "STANDS"),
+    "a receiver idles for some minutes": ("lost", 1, "LATE"),
     "frames that are done stay": ("calm", 1, "KEPT"),
     "sessions that have ended stay": ("calm+tickets", 2, "KEPT"),
     "receipts of sessions that have ended stay": ("calm+tickets", 2, "KEPT"),
@@ -234,9 +246,11 @@ MADE_UP = {
     "another list: goes on at what was carried": (
         "the receiver misses the frame and asks for it", ("deleted", "deleted+tickets", "cut+deleted", "moved")),
     "another list is read from where the last one was": (
-        "the receiver misses the frame and asks for it", ("deleted", "deleted+tickets", "cut+deleted", "deleted+killed+purged")),
+        "the receiver misses the frame and asks for it",
+        ("deleted", "deleted+tickets", "cut+deleted", "deleted+killed+purged")),
     "offsets aren't compared": (
-        "rows are: each frame that is accepted changes one", ("carrier+killed+lost", "lost+stopped", "killed+slow", "bursts+stopped")),
+        "rows are: each frame that is accepted changes one",
+        ("carrier+killed+lost", "lost+stopped", "killed+slow", "bursts+stopped")),
     "the session before isn't compared": (
         "only receivers of its shard go on with it, and each moves the shard's offset, which is compared",
         ("lost+tickets", "keys+tickets", "cut+killed+slow+tickets", "copied+stopped+tickets")),

@@ -36,7 +36,8 @@ unsigned name_of(const char *session);
 
 void frames_begin(void);
 
-/* A shard is another list from now on; its last frames are gone; the kept receipts are gone; of how many sessions of a name one is kept. */
+/* A shard is another list from now on; its last frames are gone; the kept receipts are gone; how many are kept of sessions of
+ * a name. */
 void frames_delete(unsigned shard);
 void frames_cut(unsigned shard, unsigned count);
 void frames_purge(void);
