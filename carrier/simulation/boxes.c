@@ -81,7 +81,7 @@ void box_put_some(struct box *it)
         put_many(it);
         return;
     }
-    if (has(KIND_FORKED) && world.names > 1 && is_stream(world.names - 1) && world.second < FORKED)
+    if (has(KIND_FORKED) && is_stream(world.names - 1) && world.second < FORKED)
         name = world.second == FORKED - 1 ? world.names - 1 : name % (world.names - 1); /* it begins just before the copy */
     happened(KIND_BURSTS, is_burst != 0);
     (void)box_run(it, "BEGIN IMMEDIATE", NULL, NULL); /* a sender that writes is over before */

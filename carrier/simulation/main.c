@@ -42,7 +42,7 @@ unsigned name_of(const char *session)
 
 int is_stream(unsigned name)
 {
-    return has(KIND_TICKETS) && name >= world.names / 2;
+    return has(KIND_TICKETS) && name >= (world.names + 1) / 2;
 }
 
 /* ---- A run */
