@@ -8,17 +8,12 @@ EDITS = {
 """, """\
     *own = receipt->history;
 """)],
-    "a receipt above the next number is no receipt": [("sender_receipts.c", """\
-    if (read == RECEIPT_NONE)
-        return HEARD_NOTHING;
-""", """\
-    if (read == RECEIPT_NONE || (read == RECEIPT_READ && receipt.n > it->end.progress.next))
-        return HEARD_NOTHING;
-""")],
+    "a receipt above the next number is no receipt": [("sender_receipts.c", "RECEIPT_NONE",
+      "RECEIPT_NONE || (read == RECEIPT_READ && receipt.n > it->end.progress.next)")],
     "receipts leave before the commit": [("shard_transaction.c", """\
-    if (answer == 0)
-        answer = s->store->commit(s->store);
-""", """\
+s);
+    if (answer""", """\
+s);
     for (size_t i = 0; i < s->taken.count && answer == 0; i++) {
         struct receiving *it = s->taken.at[i];
         it->end.stored = it->end.drafted;
@@ -26,34 +21,14 @@ EDITS = {
         list_add(&s->owing, it, &it->is_owing);
     }
     shard_pay(s);
-    if (answer == 0)
-        answer = s->store->commit(s->store);
-""")],
-    "what was dropped stays": [("shard_transaction.c", """\
-        return answer > 0 ? TRANSACTION_FENCED : TRANSACTION_FAULT;
-    if (krbrelay""", """\
-        s->reading.stored.offset = s->reading.read.offset;
-    if (krbrelay""")],
-    "an early frame is taken for nobody's": [("shard.c", """\
-    if (opens)
-        seen =""", """\
-    if (opens && number <= of->end.drafted.number)
-        seen =""")],
-    "a repeat is taken for nobody's": [("shard.c", """\
-    if (opens)
-        seen =""", """\
-    if (opens && number >= of->end.drafted.number)
-        seen =""")],
-    "a refused frame is taken for nobody's": [("shard.c", """\
-    if (opens)
-        seen =""", """\
-    if (opens && number != of->end.drafted.number)
-        seen =""")],
-    "a frame is accepted at any number": [("shard.c", """\
-        take_together(s, of, place, end);
-    taken =""", """\
-        take_together(s, of, place, end);
-    taken = &s->together.taken[place - s->together.first];
+    if (answer""")],
+    "what was dropped stays": [("shard_transaction.c", "return answer > 0 ? TRANSACTION_FENCED : TRANSACTION_FAULT",
+      "s->reading.stored.offset = s->reading.read.offset")],
+    "an early frame is taken for nobody's": [("shard.c", "if (opens)", "if (opens && number <= of->end.drafted.number)")],
+    "a repeat is taken for nobody's": [("shard.c", "if (opens)", "if (opens && number >= of->end.drafted.number)")],
+    "a refused frame is taken for nobody's": [("shard.c", "if (opens)", "if (opens && number != of->end.drafted.number)")],
+    "a frame is accepted at any number": [("shard.c", "taken =", """\
+taken = &s->together.taken[place - s->together.first];
     if (taken->answer == KRBRELAY_BADORDER && taken->number != UINT64_MAX && taken->number > of->end.drafted.number) {
         of->end.drafted.number = taken->number;
         krbrelay_receiver_free(&of->receiver);
@@ -63,133 +38,63 @@ EDITS = {
         take_together(s, of, place, end);
     }
     taken =""")],
-    "one item in a read is skipped": [("shard.c", """\
-    s->fetched = count;
-""", """\
-    for (int i = 1; i < count; i++)
+    "one item in a read is skipped": [("shard.c", "s->fetched =", """\
+for (int i = 1; i < count; i++)
         s->frames[i - 1] = s->frames[i];
     count -= count > 1;
-    s->fetched = count;
-""")],
-    "the session before is looked for once": [("shard_load.c", """\
-    return is_new || it->end.drafted.number == it->of.first ? ask_before(s, it) : 0;
-""", """\
-    return is_new ? ask_before(s, it) : 0;
-""")],
-    "the session before isn't compared": [("shard.c", """\
-        note_changed(s, before);
-""", """\
-        before->is_changed = before->is_changed;
-""")],
+    s->fetched =""")],
+    "the session before is looked for once": [("shard_load.c", "|| it->end.drafted.number == it->of.first ?", "?")],
+    "the session before isn't compared": [
+        ("shard.c", "note_changed(s, before)", "before->is_changed = before->is_changed")],
     "a second session after one is stored": [("shard_open.c", """\
-            return OPENING_FORKED;
+OPENING_FORKED;
     }
-    return kept_judge(s->store, it);
-""", """\
-            return OPENING_OK;
+    return kept_judge(s->store, it)""", """\
+OPENING_OK;
     }
-    return OPENING_OK;
-"""), ("store.c", """\
-    " UNIQUE (client, stream, before));";
-""", """\
-    " UNIQUE (name, client, stream, before));";
-""")],
+    return OPENING_OK"""),
+        ("store.c", "client,", "name, client,")],
     "rows aren't compared": [("sqlite_store.c", """\
-" WHERE name = ?1 AND next = ?7 AND closed = ?8 AND missed = ?9 AND at = ?10"
-                      " AND shard = ?11"),
-""", """\
-" WHERE name = ?1 AND ?7 IS NOT NULL AND ?8 IS NOT NULL AND ?9 IS NOT NULL"
-                      " AND ?10 IS NOT NULL AND ?11 IS NOT NULL"),
-""")],
-    "offsets aren't compared": [("sqlite_store.c", """\
-                    " WHERE incarnation = ?2 AND offset = ?3"),
-""", """\
-                    " WHERE ?2 IS NOT NULL AND ?3 IS NOT NULL"),
-""")],
-    "frames leave before they are stored": [("sender.c", """\
-    if (answer == SEAL_OK && outbox_commit(&s->outbox) == 0) {
-""", """\
-    if (answer == SEAL_OK && outbox_insert(&s->outbox) == 0) {
+next = ?7 AND closed = ?8 AND missed = ?9 AND at = ?10"
+                      " AND shard = ?11""", """\
+?7 IS NOT NULL AND ?8 IS NOT NULL AND ?9 IS NOT NULL"
+                      " AND ?10 IS NOT NULL AND ?11 IS NOT NULL""")],
+    "offsets aren't compared": [
+        ("sqlite_store.c", "incarnation = ?2 AND offset = ?3", "?2 IS NOT NULL AND ?3 IS NOT NULL")],
+    "frames leave before they are stored": [("sender.c", "SEAL_OK && outbox_commit", """\
+SEAL_OK && outbox_insert(&s->outbox) == 0) {
         note_kept(s);
         (void)publish_all(s);
     }
-    if (answer == SEAL_OK && outbox_commit(&s->outbox) == 0) {
-""")],
-    "after a fault of the outbox nothing is loaded again": [("sender.c", """\
-    s->is_unknown = answer == SEAL_OK; /* the commit may have happened */
-""", """\
-    s->is_unknown = 0;
-""")],
-    "an outbox takes transactions of two senders": [("outbox.c", """\
-    return turn == o->turn ? OUTBOX_OK : OUTBOX_TAKEN;
-""", """\
-    return turn >= o->turn ? OUTBOX_OK : OUTBOX_TAKEN;
-"""), ("outbox.c", """\
-DO UPDATE SET next = ?1 WHERE next = ?3"),
-""", """\
-DO UPDATE SET next = ?1 WHERE ?3 IS NOT NULL"),
-""")],
-    "an opening leaves before the session before is carried": [("publish.c", """\
-(!tickets_have(s->tickets) || sender_is_after(s, it));
-""", """\
-!tickets_have(s->tickets);
-""")],
-    "a failed text is put aside at once": [("effects.c", """\
-found->times >= chosen.tries;
-""", """\
-found->times > 0;
-""")],
-    "a failed text is never put aside": [("effects.c", """\
-found->times >= chosen.tries;
-""", """\
-found->times > 1000 + chosen.tries;
-""")],
+    if (answer == SEAL_OK && outbox_commit""")],
+    "after a fault of the outbox nothing is loaded again": [
+        ("sender.c", "answer == SEAL_OK; /* the commit may have happened */", "0;")],
+    "an outbox takes transactions of two senders": [
+        ("outbox.c", "turn ==", "turn >="), ("outbox.c", "next = ?3", "?3 IS NOT NULL")],
+    "an opening leaves before the session before is carried": [
+        ("publish.c", "(!tickets_have(s->tickets) || sender_is_after(s, it)", "!tickets_have(s->tickets")],
+    "a failed text is put aside at once": [("effects.c", "times >= chosen.tries;", "times > 0;")],
+    "a failed text is never put aside": [("effects.c", "times >= chosen.tries;", "times > 1000 + chosen.tries;")],
     "a session is forgotten before the next one has begun": [("outbox.c", """\
-WHERE stream = ?1 AND turn < ?2 - 1 AND NOT EXISTS"
+- 1 AND NOT EXISTS"
                       " (SELECT 1 FROM opened AS near JOIN frame ON frame.session = near.name"
-                      " WHERE near.stream = ?1 AND near.turn IN (opened.turn, opened.turn + 1)) LIMIT ?3"),
-""", """\
-WHERE stream = ?1 AND turn < ?2 LIMIT ?3"),
-""")],
-    "what was told is forgotten where a key is tried again": [("sender_sessions.c", """\
-s->left_tries > 0 && it->stopped_at == 0 &&""", """\
-s->left_tries > 0 &&""")],
-    "a receiver idles for some minutes": [("shard.c", """\
-    forget_ended(s);
-    look_at_store(s);
-""", """\
-    forget_ended(s);
-    if (nanoseconds() > 30 * SECOND && nanoseconds() < 500 * SECOND) {
+                      " WHERE near.stream = ?1 AND near.turn IN (opened.turn, opened.turn + 1)) LIMIT""", "LIMIT")],
+    "what was told is forgotten where a key is tried again": [("sender_sessions.c", " && it->stopped_at == 0", "")],
+    "a receiver idles for some minutes": [("shard.c", "look_at_store(s)", """\
+if (nanoseconds() > 30 * SECOND && nanoseconds() < 500 * SECOND) {
         pause_milliseconds((unsigned)milliseconds);
         return 0;
     }
-    look_at_store(s);
-""")],
+    look_at_store(s)""")],
     # What is never deleted.
-    "frames that are done stay": [("sender.c", """\
-(now.done > it->kept.done && outbox_drop_done(""", """\
-(now.done > it->kept.done && now.done == 0 && outbox_drop_done(""")],
-    "sessions that have ended stay": [("sender.c", """\
-                           || outbox_forget_ended(&s->outbox, it->begun, &s->ended) != 0))
-""", """\
-                           || (it->begun->turn == 0 && outbox_forget_ended(&s->outbox, it->begun, &s->ended) != 0)))
-""")],
-    "receipts of sessions that have ended stay": [("sender.c", """\
-    for (i = 0; i < s->ended.count; i++)
-        s->carrier->forget""", """\
-    for (i = 0; i < s->ended.count && s->carrier == NULL; i++)
-        s->carrier->forget""")],
-    "owed receipts are dropped where the carrier is away": [("shard_receipts.c", """\
-        owe_again(s, &some);
-""", """\
-        some.count = 0;
-        owe_again(s, &some);
-""")],
-    "numbers aren't compared beside the owner": [("outbox.c", """\
-DO UPDATE SET next = ?1 WHERE next = ?3"),
-""", """\
-DO UPDATE SET next = ?1 WHERE ?3 IS NOT NULL"),
-""")],
+    "frames that are done stay": [("sender.c", "outbox_drop_done", "now.done == 0 && outbox_drop_done")],
+    "sessions that have ended stay": [("sender.c", "outbox_forget_ended(&s->outbox, it->begun, &s->ended) != 0",
+      "(it->begun->turn == 0 && outbox_forget_ended(&s->outbox, it->begun, &s->ended) != 0)")],
+    "receipts of sessions that have ended stay": [("sender.c", "ended.count;", "ended.count && s->carrier == NULL;")],
+    "owed receipts are dropped where the carrier is away": [("shard_receipts.c", "owe_again(s,", """\
+some.count = 0;
+        owe_again(s,""")],
+    "numbers aren't compared beside the owner": [("outbox.c", "next = ?3", "?3 IS NOT NULL")],
 }
 
 # Which profile, seed and rule finds each, also those of engine.h.
