@@ -9,7 +9,7 @@
 
 #pragma GCC diagnostic ignored "-Wunused-parameter"
 
-/* Seconds after a fault of the carrier, for which it may be said to be away; pauses have grown while it was silent. */
+/* Seconds after a fault of the carrier, for which it may be said to be away; pauses grow while it is, up to 64 s. */
 enum { PATIENCE = 30, LONG_PATIENCE = 70 };
 
 void __real_log_fields(enum level level, const char *event, const struct field *fields);
@@ -27,7 +27,7 @@ void said_begin(void)
 
 int has_been_faulty(void)
 {
-    return now - faults.carrier_at <= (has(KIND_SILENT) ? LONG_PATIENCE : PATIENCE) * SECOND;
+    return now - faults.carrier_at <= (has(KIND_SILENT) || has(KIND_CARRIER) ? LONG_PATIENCE : PATIENCE) * SECOND;
 }
 
 /* A line names the refused session, unless it says that all of them stand. */
@@ -45,16 +45,22 @@ static int names_refused(enum level level, const struct field *fields)
 
 void __wrap_log_fields(enum level level, const char *event, const struct field *fields)
 {
+    uint64_t before = moment();
     said.nothing_confirmed += strcmp(event, "nothing_confirmed") == 0 && !has_been_faulty();
     said.refused += (unsigned long)names_refused(level, fields);
-    if (getenv("SIMULATION_LOG") != NULL)
-        __real_log_fields(level, event, fields);
+    if (getenv("SIMULATION_LOG") == NULL)
+        return;
+    __real_log_fields(level, event, fields);
+    spend(before - moment()); /* what it prints takes no time, so that the run stays the same */
 }
 
 void __wrap_log_report(const char *event, const struct field *fields)
 {
-    if (getenv("SIMULATION_LOG") != NULL)
-        __real_log_report(event, fields);
+    uint64_t before = moment();
+    if (getenv("SIMULATION_LOG") == NULL)
+        return;
+    __real_log_report(event, fields);
+    spend(before - moment());
 }
 
 /* ---- service.h */
