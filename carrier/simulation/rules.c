@@ -221,6 +221,7 @@ static void look_at_said(struct box *it)
 static unsigned look_at_texts(const struct box *of, unsigned name)
 {
     const struct name *it = &world.name[name];
+    int is_prompt = is_calm() && !has(KIND_SILENT) && !has(KIND_SKEWED);
     unsigned i, undone = 0;
     for (i = 0; i < of->count[name]; i++) {
         unsigned serial = of->marks[name][i].serial;
@@ -230,7 +231,7 @@ static unsigned look_at_texts(const struct box *of, unsigned name)
         if (is_done && undone > 0 && has_order() && !it->has_advanced)
             rule_broken(RULE_OVERTAKEN, "s%u text %u had its outcome before an older one", name, serial);
         undone += !is_done;
-        if (!is_done && has(KIND_CALM) && is_calm() && world.second > (unsigned)it->put_at[serial] + PROMPT)
+        if (!is_done && is_prompt && world.second > (unsigned)it->put_at[serial] + PROMPT)
             rule_broken(RULE_LATE, "s%u text %u had no effect within %d seconds of a calm run", name, serial, PROMPT);
     }
     return undone;
