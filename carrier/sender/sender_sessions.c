@@ -137,8 +137,8 @@ static int load_named(void *given, const char *name)
                                             : sender_find_begun(s, name, &it);
     if (found == 0)
         return tell_unloaded(s, name);
-    if (found == 1 && s->left_tries > 0 && sender_end_stop(s, name) == OUTBOX_FAULT)
-        return -1; /* it was told before, perhaps of this one */
+    if (found == 1 && s->left_tries > 0 && it->stopped_at == 0 && sender_end_stop(s, name) == OUTBOX_FAULT)
+        return -1; /* that its key can't be read was told before, perhaps of this one */
     return found < 0 ? -1 : 0;
 }
 

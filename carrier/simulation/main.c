@@ -1,262 +1,264 @@
-/* Runs seeds, one after the other, and makes those that fail smaller. `usage` says how it is called. */
+/* Runs seeds, one after the other. `usage` says how it is called. */
+#include "engine.h"
 #include "world.h"
 
 #include <stdio.h>
 #include <stdlib.h>
 #include <string.h>
+#include <sys/mman.h>
+#include <sys/resource.h>
+#include <sys/stat.h>
+#include <sys/wait.h>
+#include <unistd.h>
+
+enum { FEW = 6, LOTS = 210, MOST_BESIDES = 3, SHORT_REST = 5, CALM_REST = 15 /* seconds */ };
 
 static const char usage[] =
-    "simulation FIRST COUNT [OPTION..]\n"
-    "  --names N, --texts N   at most so many names, and texts of a name\n"
-    "  --without N,N,..       without these faults of the plan\n"
-    "  --plant NAME           with this fault planted\n"
-    "  --small                prints how a seed that fails is made smaller\n"
-    "  --counts               prints a line for each number of what happened\n"
-    "  --plants               prints the names of the faults that can be planted\n";
+    "simulation FOLDER PROFILE FIRST COUNT [BESIDES]\n"
+    "  FOLDER   for the databases of each run: it is emptied\n"
+    "  PROFILE  the kinds of faults and limits, joined by '+'; kinds.h has them\n"
+    "  BESIDES  kinds of which each seed draws none to two besides\n"
+    "It prints a line for each rule that a seed breaks, and the command that repeats it; then how often\n"
+    "each kind of fault happened. The variable SIMULATION_LOG has the programs log, and SIMULATION_PLANT\n"
+    "names a fault that is planted (engine.h). Status: 1 if a seed fails.\n";
 
-struct options {
-    uint64_t first, count;
-    unsigned names, texts;
-    const char *without;
-    enum plant plant;
-    int is_small, has_counts;
-};
+struct world world;
+struct faults faults;
+static enum kind besides[KIND_COUNT];
+static unsigned beside_count;
 
-static struct world world;
-static uint64_t happened[FAULT_KINDS], counts[COUNT_KINDS];
-
-/* ---- Plans */
-
-static void leave_out(struct plan *plan, const char *without)
+void path_of(char path[PATHS], const char *file)
 {
-    char *end = NULL;
-    while (without != NULL && *without != 0) {
-        unsigned long fault = strtoul(without, &end, 10);
-        if (fault < FAULTS)
-            plan->faults[fault].is_off = 1;
-        without = *end == ',' ? end + 1 : "";
+    (void)snprintf(path, PATHS, "%s/%s", world.folder, file); /* main looks at the folder's length */
+}
+
+/* A session by a ticket has a name that begins with `t` and the number of its stream. */
+unsigned name_of(const char *session)
+{
+    int is_one = (session[0] == 's' || session[0] == 't') && session[1] >= '0' && session[1] <= '9';
+    unsigned long number = is_one ? strtoul(session + 1, NULL, 10) : MOST_NAMES;
+    return number < MOST_NAMES ? (unsigned)number : MOST_NAMES;
+}
+
+int is_stream(unsigned name)
+{
+    return has(KIND_TICKETS) && name >= (world.names + 1) / 2;
+}
+
+/* ---- A run */
+
+/* Two senders of two kinds at once would be a third thing. */
+static int goes_with(enum kind kind)
+{
+    int has_second = has(KIND_FORKED) || has(KIND_TAKEN_OVER) || has(KIND_RESTORED);
+    return !has_second || (kind != KIND_FORKED && kind != KIND_TAKEN_OVER && kind != KIND_RESTORED);
+}
+
+/* They are drawn by themselves: the same kinds as a profile give the same run. */
+static void draw_kinds(uint64_t seed)
+{
+    struct chance of_kinds = { ~seed };
+    uint64_t count = beside_count > 0 ? chance_below(&of_kinds, MOST_BESIDES) : 0;
+    kinds_begin();
+    for (; count > 0; count--) {
+        enum kind kind = besides[chance_below(&of_kinds, beside_count)];
+        if (goes_with(kind))
+            kinds_add(kind);
     }
 }
 
-/* There is no more than so much of it. */
-static void bound(struct plan *plan, unsigned names, unsigned texts)
+static void empty_folder(void)
 {
-    if (names > 0 && plan->names > names) {
-        plan->streams = plan->streams < names ? plan->streams : names;
-        plan->names = names;
+    char command[2 * PATHS + 40];
+    (void)snprintf(command, sizeof command, "rm -rf '%s' && mkdir -p '%s'", world.folder, world.folder);
+    if (system(command) != 0)
+        exit(2);
+}
+
+static void begin_world(uint64_t seed)
+{
+    unsigned i;
+    chance = (struct chance){ seed };
+    draw_kinds(seed);
+    empty_folder();
+    world.seed = seed;
+    world.disturbed = limited(LIMIT_SECONDS, DISTURBED);
+    world.names = limited(LIMIT_NAMES, has(KIND_MANY) ? LOTS : FEW);
+    for (i = 0; i < world.names; i++)
+        world.name[i].shard = has(KIND_MANY) ? 0 : i % SHARDS;
+}
+
+/* The first step of the sender makes the outbox. */
+static void begin(uint64_t seed)
+{
+    begin_world(seed);
+    faults.carrier_at = now;
+    said_begin();
+    frames_begin();
+    ends_begin();
+    ends_step(SENDER);
+    box_open(&world.boxes[0]);
+}
+
+/* Where there are two outboxes all names have texts of both at first. */
+static void put_texts(void)
+{
+    unsigned i;
+    if (world.second >= (is_calm() && CALM < world.disturbed ? CALM : world.disturbed))
+        return;
+    box_put_some(&world.boxes[0]);
+    if (!world.boxes[1].is_used)
+        return;
+    box_put_some(&world.boxes[1]);
+    for (i = 0; world.second < 24 && i < world.names; i++) {
+        box_put(&world.boxes[0], i);
+        box_put(&world.boxes[1], i);
     }
-    if (texts > 0 && plan->texts > texts)
-        plan->texts = texts;
 }
 
-static void make_plan(struct plan *plan, uint64_t seed, const struct options *o)
+static void pass_second(void)
 {
-    plan_draw(plan, seed);
-    bound(plan, o->names, o->texts);
-    leave_out(plan, o->without);
+    world.second++;
+    events_second();
+    put_texts();
+    if (world.second == world.disturbed)
+        events_end();
+    rules_second();
 }
 
-/* ---- Runs */
-
-static void add_numbers(void)
+static void step_all(void)
 {
-    size_t i;
-    for (i = 0; i < FAULT_KINDS + COUNT_KINDS; i++)
-        if (i < FAULT_KINDS)
-            happened[i] += world.happened[i];
-        else
-            counts[i - FAULT_KINDS] += world.counts[i - FAULT_KINDS];
+    int party;
+    for (party = SENDER; party < PARTIES; party++)
+        if (world.may_run[party] && world.resumes[party] <= now)
+            ends_step(party);
 }
 
-/* Runs a plan: 1 if something is wrong, which is copied. */
-static int fails(const struct plan *plan, enum plant plant, char wrong[sizeof world.wrong])
+/* In a calm run the last receipts come before it ends. */
+static int is_done(void)
 {
-    world_run(&world, plan, plant);
-    memcpy(wrong, world.wrong, sizeof world.wrong);
-    world_forget(&world);
-    return wrong[0] != 0;
+    if (is_calm() && !box_is_done(&world.boxes[0]))
+        world.rests = world.second + CALM_REST;
+    return world.is_flooded || world.second >= world.disturbed + FAIR
+           || (world.second >= world.disturbed + (is_calm() ? REST : SHORT_REST) && world.second >= world.rests
+               && box_is_done(&world.boxes[0]));
 }
 
-/* ---- Making a plan smaller: what it takes is as if the seed had never drawn it */
-
-static int without_fault(struct plan *plan, unsigned i, enum plant plant)
+static void end(void)
 {
-    char wrong[sizeof world.wrong];
-    if (plan->faults[i].is_off)
-        return 0;
-    plan->faults[i].is_off = 1;
-    if (fails(plan, plant, wrong))
+    int party;
+    rules_end();
+    for (party = SENDER; party < PARTIES; party++)
+        ends_stop(party, 1, 0);
+    box_close(&world.boxes[0]);
+    box_close(&world.boxes[1]);
+}
+
+static void run(uint64_t seed)
+{
+    uint64_t next;
+    begin(seed);
+    next = now + SECOND;
+    while (!is_done()) {
+        step_all();
+        party_pass_time(ends_next());
+        while (now >= next && !is_done()) {
+            next += SECOND;
+            pass_second();
+        }
+    }
+    end();
+}
+
+/* ---- All runs, each in a process of its own, so that none depends on those before */
+
+static struct totals { uint64_t counts[KIND_COUNT], steps, nanoseconds; } *totals;
+
+/* Whether it went well. */
+static int run_and_print(uint64_t seed)
+{
+    char before[40];
+    run(seed);
+    totals->steps += world.steps;
+    totals->nanoseconds += now;
+    (void)snprintf(before, sizeof before, "seed %llu: ", (unsigned long long)seed);
+    if (rules_print(before) == 0)
         return 1;
-    plan->faults[i].is_off = 0;
+    printf("    carrier/simulation/simulate %s %llu\n", kinds_profile(), (unsigned long long)seed);
     return 0;
 }
 
-static int without_faults(struct plan *plan, enum plant plant)
+static int run_apart(uint64_t seed)
 {
-    unsigned i;
-    int is_smaller = 0;
-    for (i = 0; i < plan->count; i++)
-        is_smaller |= without_fault(plan, i, plant);
-    return is_smaller;
+    int status = 0;
+    pid_t child = fork();
+    if (child == 0) {
+        int is_fine = run_and_print(seed);
+        (void)fflush(stdout);
+        _exit(!is_fine);
+    }
+    if (child < 0 || waitpid(child, &status, 0) < 0)
+        exit(2);
+    if (WIFSIGNALED(status))
+        printf("seed %llu: the run was ended by signal %d\n", (unsigned long long)seed, WTERMSIG(status));
+    return status == 0;
 }
 
-static int with_fewer(struct plan *plan, unsigned names, unsigned texts, enum plant plant)
+static double processor_seconds(void)
 {
-    struct plan fewer = *plan;
-    char wrong[sizeof world.wrong];
-    bound(&fewer, names, texts);
-    if ((fewer.names == plan->names && fewer.texts == plan->texts) || !fails(&fewer, plant, wrong))
-        return 0;
-    *plan = fewer;
+    struct rusage used;
+    (void)getrusage(RUSAGE_CHILDREN, &used); /* always 0 of this word */
+    return (double)(used.ru_utime.tv_sec + used.ru_stime.tv_sec)
+           + (double)(used.ru_utime.tv_usec + used.ru_stime.tv_usec) / 1e6;
+}
+
+/* ---- */
+
+static int take_besides(const char *words)
+{
+    while (*words != 0) {
+        size_t len = strcspn(words, ",");
+        enum kind kind = kind_of(words, len);
+        if (kind == KIND_COUNT)
+            return 0;
+        besides[beside_count++ % KIND_COUNT] = kind;
+        words += len + (words[len] == ',');
+    }
     return 1;
 }
 
-static void make_smaller(struct plan *plan, enum plant plant)
+static int take_words(int count, char **words)
 {
-    int is_smaller;
-    do {
-        is_smaller = without_faults(plan, plant);
-        is_smaller |= with_fewer(plan, plan->names - 1, 0, plant);
-        is_smaller |= with_fewer(plan, 0, (plan->texts + 1) / 2, plant);
-    } while (is_smaller);
-}
-
-/* ---- What is printed */
-
-static void print_without(const struct plan *plan)
-{
-    unsigned i;
-    const char *before = " --without ";
-    for (i = 0; i < plan->count; i++)
-        if (plan->faults[i].is_off) {
-            printf("%s%u", before, i);
-            before = ",";
-        }
-}
-
-static void print_command(const struct plan *plan, enum plant plant)
-{
-    printf("    carrier/simulation/simulate %llu 1 --names %u --texts %u", (unsigned long long)plan->seed, plan->names,
-           plan->texts);
-    print_without(plan);
-    if (plant != PLANT_NONE)
-        printf(" --plant \"%s\"", plant_text(plant));
-    printf("\n");
-}
-
-static void print_failure(struct plan *plan, const struct options *o, const char *wrong)
-{
-    char last[sizeof world.wrong];
-    printf("seed %llu: %s\n", (unsigned long long)plan->seed, wrong);
-    print_command(plan, o->plant);
-    if (!o->is_small)
-        return;
-    make_smaller(plan, o->plant);
-    if (!fails(plan, o->plant, last))
-        return; /* never: it was tried */
-    printf("smaller: %s\n", last);
-    print_command(plan, o->plant);
-    plan_print(plan);
-}
-
-#define COUNT_TEXT(name, text) text,
-static const char *const count_texts[] = { COUNTS(COUNT_TEXT) };
-
-static void print_numbers(void)
-{
-    size_t i;
-    for (i = 0; i < FAULT_KINDS + COUNT_KINDS; i++)
-        if (i < FAULT_KINDS)
-            printf("%llu %s\n", (unsigned long long)happened[i], fault_text((enum fault_kind)i));
-        else
-            printf("%llu %s\n", (unsigned long long)counts[i - FAULT_KINDS], count_texts[i - FAULT_KINDS]);
-}
-
-/* Of so many seeds how many fail. */
-static uint64_t run_all(const struct options *o)
-{
-    uint64_t seed, failed = 0;
-    char wrong[sizeof world.wrong];
-    for (seed = o->first; seed < o->first + o->count; seed++) {
-        struct plan plan;
-        make_plan(&plan, seed, o);
-        if (fails(&plan, o->plant, wrong)) {
-            failed++;
-            print_failure(&plan, o, wrong);
-        }
-        add_numbers();
-    }
-    return failed;
-}
-
-/* ---- Options */
-
-static void print_plants(void)
-{
-    int i;
-    for (i = 1; i < PLANT_KINDS; i++)
-        printf("%s\n", plant_text((enum plant)i));
-}
-
-static enum plant plant_of(const char *name)
-{
-    int i = 1;
-    while (i < PLANT_KINDS && strcmp(plant_text((enum plant)i), name) != 0)
-        i++;
-    return (enum plant)i;
-}
-
-/* Takes a word, and the one after it if it has one: how many were taken, 0 if it is none. */
-static int take_word(struct options *o, const char *word, const char *next)
-{
-    if (strcmp(word, "--small") == 0 || strcmp(word, "--counts") == 0) {
-        *(strcmp(word, "--small") == 0 ? &o->is_small : &o->has_counts) = 1;
-        return 1;
-    }
-    if (next == NULL)
+    if (count < 5 || count > 6 || strlen(words[1]) + 1 > sizeof world.folder || strchr(words[1], '\'') != NULL)
         return 0;
-    if (strcmp(word, "--names") == 0)
-        o->names = (unsigned)strtoul(next, NULL, 10);
-    else if (strcmp(word, "--texts") == 0)
-        o->texts = (unsigned)strtoul(next, NULL, 10);
-    else if (strcmp(word, "--without") == 0)
-        o->without = next;
-    else if (strcmp(word, "--plant") == 0)
-        o->plant = plant_of(next);
-    else
-        return 0;
-    return o->plant < PLANT_KINDS ? 2 : 0;
-}
-
-static int take_words(struct options *o, int count, char **words)
-{
-    int i = 3, taken = 1;
-    if (count < 3)
-        return 0;
-    o->first = strtoull(words[1], NULL, 10);
-    o->count = strtoull(words[2], NULL, 10);
-    while (i < count && taken > 0) {
-        taken = take_word(o, words[i], i + 1 < count ? words[i + 1] : NULL);
-        i += taken;
-    }
-    return taken > 0 && o->count > 0;
+    memcpy(world.folder, words[1], strlen(words[1]) + 1);
+    path_of(world.boxes[0].path, "outbox.db");
+    path_of(world.boxes[1].path, "forked.db");
+    path_of(world.saved.path, "copy.db");
+    return kinds_choose(words[2]) && (count == 5 || take_besides(words[5]));
 }
 
 int main(int count, char **words)
 {
-    struct options o = { 0, 0, 0, 0, NULL, PLANT_NONE, 0, 0 };
-    uint64_t failed;
-    if (count == 2 && strcmp(words[1], "--plants") == 0) {
-        print_plants();
-        return 0;
-    }
-    if (!take_words(&o, count, words)) {
+    uint64_t seed, first, last, failed = 0;
+    if (!take_words(count, words)) {
         (void)fputs(usage, stderr);
         return 2;
     }
-    failed = run_all(&o);
-    if (o.has_counts)
-        print_numbers();
-    printf("%llu passed, %llu failed\n", (unsigned long long)(o.count - failed), (unsigned long long)failed);
+    totals = mmap(NULL, sizeof *totals, PROT_READ | PROT_WRITE, MAP_SHARED | MAP_ANONYMOUS, -1, 0);
+    if (totals == MAP_FAILED)
+        return 2;
+    kinds_count_at(totals->counts);
+    if (getenv("SIMULATION_PLANT") != NULL && !engine_plant(getenv("SIMULATION_PLANT")))
+        return 2;
+    first = strtoull(words[3], NULL, 10);
+    last = first + strtoull(words[4], NULL, 10);
+    umask(077); /* as the programs do */
+    for (seed = first; seed < last; seed++)
+        failed += !run_apart(seed);
+    kinds_print();
+    printf("%llu steps, %llu virtual seconds, %.1f s of a processor\n", (unsigned long long)totals->steps,
+           (unsigned long long)(totals->nanoseconds / SECOND), processor_seconds());
+    printf("%llu passed, %llu failed\n", (unsigned long long)(last - first - failed), (unsigned long long)failed);
     return failed > 0;
 }

@@ -137,10 +137,9 @@ TICKET_EDITS = {
 }
 
 
-def write(name, sources, folder, edits=None):
-    """Writes a copy of the sources with the bug. The text has to stand there once."""
-    path, old, new = (edits or EDITS | TICKET_EDITS)[name]
-    shutil.copytree(sources, folder, ignore=shutil.ignore_patterns("out"))
+def change(name, folder, edit):
+    """Makes one change in a copy of the sources. The text has to stand there once."""
+    path, old, new = edit
     path = places.place_of(path, folder)
     with open(path, encoding="utf-8") as file:
         text = file.read()
@@ -148,3 +147,9 @@ def write(name, sources, folder, edits=None):
         raise ValueError(f"{name}: the text to be changed stands {text.count(old)} times in {path}")
     with open(path, "w", encoding="utf-8") as file:
         file.write(text.replace(old, new))
+
+
+def write(name, sources, folder):
+    """Writes a copy of the sources with the bug."""
+    shutil.copytree(sources, folder, ignore=shutil.ignore_patterns("out"))
+    change(name, folder, (EDITS | TICKET_EDITS)[name])

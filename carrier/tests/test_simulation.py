@@ -1,5 +1,6 @@
-"""Drawn runs of both ends of the carrier over the proved engine (carrier/simulation): no seed fails, each kind of fault
-happens in them, each planted fault is found, and sanitizers find nothing."""
+"""Drawn runs of the shipped sender and receivers (carrier/simulation): no profile of the gate breaks a rule, each
+kind of fault happens in them, and each mutant and planted fault is found, where the tree as it is breaks no such
+rule, or another rule makes up for it."""
 import os
 import re
 
@@ -8,16 +9,16 @@ import pytest
 from lib import scripts
 from lib.build import building
 
-SEEDS, SANITIZED, PLANTED = 20_000, 300, 1_000
-JOBS = min(2, os.cpu_count() or 1)
 simulate = scripts.load("carrier/simulation/simulate")
-# For these other rules make up, as carrier/simulation/README.md says.
-MADE_UP = {
-    "confirmed counts out of order", "a confirmation counts at any offset",
-    "another list: goes on at what was carried", "another list is read from where the last one was",
-    "an opening leaves before the session before is carried", "offsets aren't compared",
-    "the session before isn't compared"}
-PLANTS = re.findall(r'X\(\w+, "(.*?)"\)', building.text_of("carrier/simulation/plants.h"))
+profiles, plants = simulate.profiles, simulate.plants
+JOBS = min(2, os.cpu_count() or 1)
+KINDS = dict(re.findall(r'X\(\w+, "(\w+)", "(.*?)"\)', building.text_of("carrier/simulation/kinds.h")))
+SANITIZED = [profiles.Row(it, 1) for it in (
+    "lost+killed+memory", "restored+deleted", "refused_a_while", "calm+tickets", "moved+stopped+copied", "uncommitted")]
+
+
+def kinds_of(rows):
+    return {kind for row in rows for kind in re.split(r"[+,]", f"{row.profile},{getattr(row, 'besides', '')}") if kind}
 
 
 @pytest.fixture(scope="module", name="program")
@@ -27,33 +28,60 @@ def built():
 
 @pytest.fixture(scope="module", name="result")
 def of_all(program):
-    return simulate.run(program, 1, SEEDS, [], JOBS)
+    return simulate.run(program, profiles.PASSES, JOBS)
 
 
-def test_no_seed_fails(result):
-    assert result.failures == [] and (result.passed, result.failed) == (SEEDS, 0)
+def test_no_seed_breaks_a_rule(result):
+    assert result.failures == [] and (result.passed, result.failed) == (sum(it.seeds for it in profiles.PASSES), 0)
 
 
-def test_each_fault_and_each_thing_happens(result):
-    assert len(result.counts) > 50 and [what for what, number in result.counts.items() if number == 0] == []
+def test_each_kind_of_fault_happens(result):
+    assert [text for text in KINDS.values() if result.counts[text] == 0] == []
+
+
+def test_each_kind_is_in_a_table():
+    assert kinds_of(profiles.PASSES) == set(KINDS)
 
 
 def test_a_run_is_repeated_by_its_seed(program):
-    once, again, other = (simulate.run(program, first, 20, []).counts for first in (7, 7, 8))
-    assert once == again != other
+    once, again, other = (simulate.run(program, [profiles.Row("lost+killed+memory", 2, "", first)])
+                          for first in (7, 7, 8))
+    assert (once.counts, once.steps) == (again.counts, again.steps) != (other.counts, other.steps)
+
+
+def test_a_seed_that_fails_is_made_smaller(program):
+    plant = "a probe never has the opening"
+    smaller = simulate.smaller(program, "lost+tickets+keys", 1, plant)
+    assert set(smaller.split("+")) >= {"tickets", "keys"} and "lost" not in smaller and "=" in smaller
+    assert "STANDS" in simulate.breaks(program, smaller, 1, plant=plant)
+    assert simulate.smaller(program, "lost+tickets+keys", 1) == "lost+tickets+keys"
 
 
 def test_sanitizers_find_nothing(program):
     sanitized = simulate.build(simulate.library(), sanitizes=True)
-    result = simulate.run(sanitized, 1, SANITIZED, [], JOBS)
-    assert (result.passed, result.failed) == (SANITIZED, 0)
-    assert result.counts == simulate.run(program, 1, SANITIZED, [], JOBS).counts
+    result, plain = (simulate.run(it, SANITIZED, JOBS) for it in (sanitized, program))
+    assert result.failures == [] and (result.counts, result.steps) == (plain.counts, plain.steps)
 
 
-def test_each_plant_is_known(program):
-    assert simulate.plants(program) == PLANTS and set(PLANTS) > MADE_UP
+def test_each_mutant_is_in_the_table():
+    """But for those of real openings and of NATS."""
+    edits = simulate.mutants.EDITS | simulate.mutants.TICKET_EDITS
+    assert set(profiles.MUTANTS) == {it for it, edit in edits.items() if edit[0] not in {"nats_publisher.c", "opening.c"}}
 
 
-@pytest.mark.parametrize("plant", [it for it in PLANTS if it not in MADE_UP])
-def test_a_planted_fault_is_found(program, plant):
-    assert simulate.finds(program, plant, PLANTED)
+def test_each_planted_fault_is_in_a_table():
+    engine = simulate.engine_plants()
+    assert len(engine) > 20 and set(engine) | set(plants.EDITS) == set(plants.FOUND) | set(plants.MADE_UP)
+    assert not set(plants.FOUND) & set(plants.MADE_UP)
+
+
+@pytest.mark.parametrize("name", profiles.MUTANTS | plants.FOUND)
+def test_a_mutant_is_found(program, name):
+    profile, seed, rule = (profiles.MUTANTS | plants.FOUND)[name]
+    assert simulate.finds_mutant(simulate.library(), name)
+    assert rule not in simulate.breaks(program, profile, seed)
+
+
+@pytest.mark.parametrize("name", plants.MADE_UP)
+def test_another_rule_makes_up(name):
+    assert simulate.breaks_made_up(simulate.library(), name) == set()

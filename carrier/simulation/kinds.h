@@ -1,4 +1,5 @@
-/* The kinds of faults of a run, and of what makes a run another one. A profile is the names of some, joined by '+'. */
+/* The kinds of faults of a run, and of what makes a run another one. A profile is the names of some, joined by '+', and
+ * perhaps limits, as `texts=5`, which make a run smaller. */
 #ifndef KINDS_H
 #define KINDS_H
 
@@ -12,11 +13,13 @@
     X(CUT, "cut", "shards that lost their last frames, which were confirmed") \
     X(PURGED, "purged", "times that the kept receipts were purged") \
     X(KILLED, "killed", "programs that were stopped, or killed within a call") \
+    X(STOPPED, "stopped", "programs that were stopped for some seconds, and went on") \
     X(DATABASE, "database", "calls of SQLite that failed, drawn one by one") \
     X(STATEMENT, "statement", "calls of one statement, or of one table, that failed") \
     X(UNREADABLE, "unreadable", "reads of the table frame that failed") \
     X(STORE_UNKNOWN, "store_unknown", "commits of a store that happened and said no") \
     X(OUTBOX_UNKNOWN, "outbox_unknown", "commits of an outbox that happened and said no") \
+    X(UNCOMMITTED, "uncommitted", "commits that failed") \
     X(SLOW, "slow", "calls that took up to three seconds") \
     X(MEMORY, "memory", "allocations that failed") \
     X(RESTORED, "restored", "outboxes that were restored from an older copy") \
@@ -38,13 +41,28 @@
     X(KEYS, "keys", "keys of streams that couldn't be read or wrapped") \
     X(KDC, "kdc", "tickets that the KDC didn't give") \
     X(MANY, "many", "texts of 210 sessions of one shard") \
-    X(BURSTS, "bursts", "bursts of 1,200 texts")
+    X(BURSTS, "bursts", "bursts of 1,200 texts") \
+    X(CALM, "calm", "frames, confirmations and receipts that were lost one at a time") \
+    X(SILENT, "silent", "frames that the carrier took and forgot, in half a minute") \
+    X(SKEWED, "skewed", "seconds in which the clocks of receivers were wrong by three hours") \
+    X(COPIED, "copied", "frames that somebody copied into another shard")
 
 #define KIND_VALUE(name, word, text) KIND_##name,
 enum kind { KINDS(KIND_VALUE) KIND_COUNT };
 
 /* Whether this run has the kind. */
 int has(enum kind kind);
+
+/* Limits: of sessions, of each one's texts, and of the seconds in which faults happen. */
+#define LIMITS(X) X(NAMES, "names") X(TEXTS, "texts") X(SECONDS, "seconds")
+#define LIMIT_VALUE(name, word) LIMIT_##name,
+enum limit { LIMITS(LIMIT_VALUE) LIMIT_COUNT };
+
+/* This number, or the limit if that is less. */
+unsigned limited(enum limit limit, unsigned number);
+
+/* Whether the run has only kinds after which it is known how often each frame leaves, and when. */
+int is_calm(void);
 
 /* Where it is counted; it happened so often. */
 void kinds_count_at(uint64_t at[KIND_COUNT]);

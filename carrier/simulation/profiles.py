@@ -5,15 +5,16 @@ import typing
 
 # Kinds that a seed draws besides, none to two of them.
 MANY = ("lost,carrier,killed,deleted,cut,purged,slow,memory,store_unknown,taken_over,added,moved,later,"
-        "refused_a_while")
+        "refused_a_while,stopped,uncommitted,copied")
 FEW = "lost,killed,slow,memory"
 
 
 class Row(typing.NamedTuple):
-    """So many seeds from the first on, with kinds besides."""
+    """So many seeds, with kinds besides."""
     profile: str
     seeds: int
     besides: str = ""
+    first: int = 1
 
 
 # What the gate runs, each seed of it without a fault.
@@ -53,11 +54,44 @@ PASSES = [
     Row("restored+tickets", 3),                 # a stream's session that is refused counted as a carrier that is away
     Row("lost+slow+tickets+keys+kdc", 5),       # so did sessions that wait for the one before them
     Row("outbox_unknown", 4),                   # a commit that happened and said no left sessions standing, untold
+    Row("forked+tickets+keys", 1, "", 12),            # where a key was tried again, stopped sessions weren't named any more
+    # Bounds of time and growth.
+    Row("calm", 6),
+    Row("calm+bursts", 3),
+    Row("calm+tickets", 6),
+    Row("silent", 4),
+    Row("silent+bursts", 2),
+    Row("silent+many", 1),
+    Row("skewed", 5),
+    Row("skewed+tickets", 3),
+    Row("uncommitted", 5, MANY),
+    Row("moved+stopped", 5, FEW),
+    Row("copied+tickets", 5, FEW),
+    Row("taken_over", 3, FEW),
 ]
 
+# Kinds that are drawn together where any are drawn.
+GROUPS = [
+    "lost", "carrier", "deleted", "cut", "purged", "killed", "database", "statement", "store_unknown", "outbox_unknown",
+    "slow", "memory", "uncommitted", "stopped", "restored", "restored+purged+killed", "restored+carrier", "forked",
+    "forked+killed", "taken_over", "moved", "moved+stopped", "added", "later", "unreadable+killed", "row_gone",
+    "row_spoilt", "refused_a_while", "refused", "refused+aside", "refused_many+aside", "slow_effects", "clock", "bounded",
+    "tickets", "tickets+keys", "tickets+kdc", "tickets+keys+kdc+killed", "many+carrier", "bursts+carrier", "bursts",
+    "calm", "silent", "skewed", "copied+tickets",
+]
+# Of these a run has one: a second sender, wrong clocks (or frames that are gone besides), many texts or slow effects, rows, refused texts.
+CONFLICTS = [("restored", "forked", "taken_over"), ("clock", "skewed", "cut"), ("many", "bursts", "slow_effects"),
+             ("row_gone", "row_spoilt"), ("refused", "refused_many", "refused_a_while")]
 
-# Each mutant of carrier/tests/mutants.py that is none of NATS's calls, of real openings (opening.c) or of a frame that
-# somebody copies into another shard: what finds it.
+
+def without_conflicts(kinds: typing.Set[str]) -> typing.Set[str]:
+    """These kinds, of each conflict one."""
+    for conflict in CONFLICTS:
+        kinds = kinds - set([it for it in conflict if it in kinds][1:])
+    return kinds
+
+
+# Each mutant of carrier/tests/mutants.py that is none of NATS's calls or of real openings (opening.c): what finds it.
 MUTANTS = {
     "no compare-and-set": ("lost+carrier+killed", 1, "DOUBLED"),
     "receipts ask for nothing": ("cut", 1, "STANDS"),
@@ -70,4 +104,5 @@ MUTANTS = {
     "receipts aren't sealed again": ("lost+killed", 1, "STANDS"),
     "a stream goes on without its key": ("keys+tickets", 4, "OVERTAKEN"),
     "no session waits for the one before": ("cut+killed+slow+tickets", 2, "OVERTAKEN"),
+    "each shard goes on with a session": ("copied+tickets", 1, "ELSEWHERE"),
 }

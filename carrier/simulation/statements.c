@@ -148,6 +148,8 @@ int __wrap_sqlite3_exec(sqlite3 *db, const char *sql, each_row *take, void *give
     int code = failure_of(db, sql), answer;
     if (code != 0)
         return code;
+    if (running != WORLD && strcmp(sql, "COMMIT") == 0 && is_drawn(faults.uncommitted))
+        return fail(db, SQLITE_FULL, KIND_UNCOMMITTED);
     answer = __real_sqlite3_exec(db, sql, take, given, error);
     if (running == WORLD || answer != SQLITE_OK || strcmp(sql, "COMMIT") != 0)
         return answer;

@@ -18,7 +18,9 @@ struct shard_of_frames { struct items items; uint64_t incarnation; };
 static struct shard_of_frames shards[SHARDS];
 static struct items receipts;
 static uint64_t turns;
-static unsigned long published[MOST_NAMES + 1];
+static unsigned long published[MOST_NAMES + 1], under_way[SHARDS];
+static unsigned char left[MOST_NAMES + 1][MOST_TEXTS];
+static unsigned said_of[MOST_NAMES + 1];
 
 /* A confirmation that is under way. */
 struct answer { uint64_t due; struct confirmed it; struct answer *next; };
@@ -84,18 +86,37 @@ void frames_purge(void)
     happened(KIND_PURGED, 1);
 }
 
-int frames_have_receipt(unsigned name)
+unsigned frames_receipts_kept(unsigned name)
 {
+    unsigned number = 0;
     size_t i;
     for (i = 0; i < receipts.count; i++)
-        if (name_of(receipts.at[i].session) == name)
-            return 1;
-    return 0;
+        number += name_of(receipts.at[i].session) == name;
+    return number;
 }
 
 unsigned long frames_published(unsigned name)
 {
     return published[name];
+}
+
+unsigned frames_left(unsigned name, unsigned number)
+{
+    return left[name][number];
+}
+
+unsigned long frames_under_way(unsigned shard)
+{
+    unsigned long number = under_way[shard];
+    under_way[shard] = 0;
+    return number;
+}
+
+unsigned frames_receipts(unsigned name)
+{
+    unsigned number = said_of[name];
+    said_of[name] = 0;
+    return number;
 }
 
 /* ---- Faults */
@@ -124,6 +145,15 @@ static int is_struck(unsigned chance_of_it, enum kind kind)
     happened(kind, 1);
     faults.carrier_at = now;
     return 1;
+}
+
+/* The next one is lost, if one is to be. */
+static int is_lost_once(int *which)
+{
+    int is_lost = *which;
+    *which = 0;
+    happened(KIND_CALM, is_lost != 0);
+    return is_lost;
 }
 
 static int fails(void)
@@ -165,11 +195,33 @@ static int confirm(struct connection *c, unsigned shard, uint32_t tag, uint64_t 
     return 0;
 }
 
+static void count_published(unsigned shard, const char *session, uint64_t number)
+{
+    unsigned name = name_of(session);
+    published[name]++;
+    under_way[shard]++;
+    if (session[0] == 's' && number < MOST_TEXTS && left[name][number] < UINT8_MAX)
+        left[name][number]++;
+}
+
+/* Somebody copies it. */
+static void copy_elsewhere(unsigned shard, const char *session, const uint8_t *frame, size_t len)
+{
+    if (!has(KIND_COPIED) || faults.is_over || drawn(3) != 0)
+        return;
+    happened(KIND_COPIED, 1);
+    (void)put(&shards[(shard + 1) % SHARDS].items, session, frame, len);
+}
+
 static int publish(struct carrier *base, unsigned shard, const char *session, uint32_t tag, uint64_t number,
                    const uint8_t *frame, size_t len)
 {
     struct items *to = &shards[shard].items;
-    published[name_of(session)]++;
+    count_published(shard, session, number);
+    happened(KIND_SILENT, faults.is_silent != 0);
+    if (faults.is_silent || is_lost_once(&faults.loses_frame))
+        return 0;
+    copy_elsewhere(shard, session, frame, len);
     if (fails()) {
         if (drawn(HAPPENS_ALL_THE_SAME) == 0)
             (void)put(to, session, frame, len);
@@ -180,7 +232,10 @@ static int publish(struct carrier *base, unsigned shard, const char *session, ui
     (void)put(to, session, frame, len);
     if (is_struck(faults.twice, KIND_LOST))
         (void)put(to, session, frame, len);
-    return is_struck(faults.lost, KIND_LOST) ? 0 : confirm((struct connection *)base, shard, tag, number);
+    if (is_struck(faults.lost, KIND_LOST) || is_lost_once(&faults.loses_confirmation))
+        return 0;
+    under_way[shard] -= under_way[shard] > 0;
+    return confirm((struct connection *)base, shard, tag, number);
 }
 
 static int confirmed(struct carrier *base, struct confirmed *list, size_t room, int time)
@@ -239,16 +294,26 @@ static int behind(struct carrier *base, uint64_t *frames)
 
 /* ---- Receipts: of a session of a shard the last one is kept */
 
+static size_t find_receipt(unsigned shard, const char *session)
+{
+    size_t i = 0;
+    while (i < receipts.count && (receipts.at[i].shard != shard || strcmp(receipts.at[i].session, session) != 0))
+        i++;
+    return i;
+}
+
+static void drop_receipt(size_t i)
+{
+    if (i == receipts.count)
+        return;
+    free(receipts.at[i].bytes);
+    memmove(&receipts.at[i], &receipts.at[i + 1], (--receipts.count - i) * sizeof *receipts.at);
+}
+
 static void keep_receipt(unsigned shard, const struct carried *receipt)
 {
     struct item *kept;
-    size_t i = 0;
-    while (i < receipts.count && (receipts.at[i].shard != shard || strcmp(receipts.at[i].session, receipt->session) != 0))
-        i++;
-    if (i < receipts.count) {
-        free(receipts.at[i].bytes);
-        memmove(&receipts.at[i], &receipts.at[i + 1], (--receipts.count - i) * sizeof *receipts.at);
-    }
+    drop_receipt(find_receipt(shard, receipt->session));
     kept = put(&receipts, receipt->session, receipt->frame, receipt->len);
     kept->shard = shard;
     kept->turn = ++turns;
@@ -259,9 +324,12 @@ static int acknowledge(struct carrier *base, unsigned shard, const struct carrie
     size_t i;
     if (fails())
         return CARRIER_FAULT;
-    for (i = 0; i < count; i++)
-        if (!is_struck(faults.lost, KIND_LOST))
+    for (i = 0; i < count; i++) {
+        said_of[name_of(list[i].session)]++;
+        happened(KIND_CALM, faults.loses_receipts != 0);
+        if (!faults.loses_receipts && !is_struck(faults.lost, KIND_LOST))
             keep_receipt(shard, &list[i]);
+    }
     return 0;
 }
 
@@ -283,6 +351,8 @@ static int give_receipts(struct carrier *base, carrier_receipt *take, void *give
 
 static void forget_receipt(struct carrier *base, unsigned shard, const char *session)
 {
+    if (!fails())
+        drop_receipt(find_receipt(shard, session));
 }
 
 /* ---- */

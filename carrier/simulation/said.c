@@ -9,7 +9,8 @@
 
 #pragma GCC diagnostic ignored "-Wunused-parameter"
 
-#define PATIENCE (30 * SECOND) /* after a fault of the carrier, for which it may be said to be away */
+/* Seconds after a fault of the carrier, for which it may be said to be away; pauses grow while it is, up to 64 s. */
+enum { PATIENCE = 30, LONG_PATIENCE = 70 };
 
 void __real_log_fields(enum level level, const char *event, const struct field *fields);
 void __wrap_log_fields(enum level level, const char *event, const struct field *fields);
@@ -24,9 +25,9 @@ void said_begin(void)
     said = (struct said){ .worked_at = now };
 }
 
-static int has_been_faulty(void)
+int has_been_faulty(void)
 {
-    return now - faults.carrier_at < PATIENCE;
+    return now - faults.carrier_at <= (has(KIND_SILENT) || has(KIND_CARRIER) ? LONG_PATIENCE : PATIENCE) * SECOND;
 }
 
 /* A line names the refused session, unless it says that all of them stand. */
@@ -44,16 +45,22 @@ static int names_refused(enum level level, const struct field *fields)
 
 void __wrap_log_fields(enum level level, const char *event, const struct field *fields)
 {
+    uint64_t before = moment();
     said.nothing_confirmed += strcmp(event, "nothing_confirmed") == 0 && !has_been_faulty();
     said.refused += (unsigned long)names_refused(level, fields);
-    if (getenv("SIMULATION_LOG") != NULL)
-        __real_log_fields(level, event, fields);
+    if (getenv("SIMULATION_LOG") == NULL)
+        return;
+    __real_log_fields(level, event, fields);
+    spend(before - moment()); /* what it prints takes no time, so that the run stays the same */
 }
 
 void __wrap_log_report(const char *event, const struct field *fields)
 {
-    if (getenv("SIMULATION_LOG") != NULL)
-        __real_log_report(event, fields);
+    uint64_t before = moment();
+    if (getenv("SIMULATION_LOG") == NULL)
+        return;
+    __real_log_report(event, fields);
+    spend(before - moment());
 }
 
 /* ---- service.h */

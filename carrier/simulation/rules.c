@@ -2,6 +2,8 @@
 #include "world.h"
 #include "statements.h"
 
+#include <krbrelay.h>
+
 #include <stdarg.h>
 #include <stdio.h>
 #include <stdlib.h>
@@ -13,7 +15,11 @@ enum {
     EFFECTS = 4, EFFECTS_OF_A_FAULT = 2,                          /* so often may an effect be run */
     CALLS = 40000, SPINNING = 10,                                 /* of SQL in a second; seconds of a run that is ended */
     UNHEALTHY = 12, UNSEEN = 5,                                   /* seconds */
-    LOOKED_EACH = 5, TRIES = 3
+    LOOKED_EACH = 5, TRIES = 3,
+    UNDER_WAY = 2048, PROMPT = 12,                                /* frames of a shard; seconds of a text in a calm run, .. */
+    TIMES = 9, AGAIN = 3, MOST_AGAIN = 24,                        /* .. how often a frame leaves, and most of them; */
+    RECEIPTS = 12, OPENED = 4,                                               /* of a session in a second; */
+    REFUSED_FROM = 20, REFUSED_UNTIL = 58, CALM_FROM = 5, CALM_UNTIL = 20 /* what has to be said in these seconds */
 };
 #define MOST_BYTES ((size_t)64 << 20)
 
@@ -56,6 +62,15 @@ static int has_order(void)
     return !world.boxes[1].is_used;
 }
 
+/* FNV-1a, and no zero. */
+static unsigned digest_of(const char *session)
+{
+    uint32_t digest = UINT32_C(2166136261);
+    for (; *session != 0; session++)
+        digest = (digest ^ (unsigned char)*session) * UINT32_C(16777619);
+    return digest != 0 ? digest : 1;
+}
+
 static void see_effect(struct name *it, unsigned name, unsigned serial)
 {
     if (has_order() && serial < it->last)
@@ -82,6 +97,7 @@ static void see(enum outcome outcome, char **values)
     happened(KIND_ASIDE, outcome == PUT_ASIDE);
     if (outcome == PUT_ASIDE && effects_run(name, serial) < TRIES)
         rule_broken(RULE_ASIDE_EARLY, "s%u text %u was put aside after %u tries", name, serial, effects_run(name, serial));
+    it->took_in[serial] = digest_of(values[1]);
     if (outcome == TOOK_EFFECT)
         see_effect(it, name, serial);
 }
@@ -112,20 +128,41 @@ static void look_at_table(sqlite3 *db, const char *table, sqlite3_int64 *last, e
     (void)sqlite3_exec(db, sql, take, last, NULL); /* the table may not be there yet */
 }
 
-/* Lines move between shards of one file alone. */
+static int take_elsewhere(void *given, int count, char **values, char **names)
+{
+    (void)given;
+    (void)count;
+    (void)names;
+    rule_broken(RULE_ELSEWHERE, "session %s goes on in another shard than its own", values[0]);
+    return 0;
+}
+
+/* A shard's store, or that of all; NULL if there is none yet. */
+static sqlite3 *store_of(unsigned shard)
+{
+    static sqlite3 *stores[SHARDS];
+    char file[TEXT], path[PATHS];
+    (void)snprintf(file, sizeof file, has_one_store() ? "store.db" : "store-%u.db", shard);
+    path_of(path, file);
+    if (stores[shard] == NULL && sqlite3_open_v2(path, &stores[shard], SQLITE_OPEN_READONLY, NULL) != SQLITE_OK) {
+        (void)sqlite3_close(stores[shard]); /* no statement is left */
+        stores[shard] = NULL;
+    }
+    return stores[shard];
+}
+
 static void look_at_effects(void)
 {
-    char file[TEXT], path[PATHS];
     unsigned i;
-    for (i = 0; i < (has(KIND_MOVED) ? 1u : (unsigned)SHARDS); i++) {
-        sqlite3 *db = NULL;
-        (void)snprintf(file, sizeof file, has(KIND_MOVED) ? "store.db" : "store-%u.db", i);
-        path_of(path, file);
-        if (sqlite3_open_v2(path, &db, SQLITE_OPEN_READONLY, NULL) == SQLITE_OK) {
-            look_at_table(db, "aside", &last_aside[i], take_asides);
-            look_at_table(db, "effect", &last_effect[i], take_effects);
-        }
-        (void)sqlite3_close(db); /* no statement is left */
+    for (i = 0; i < (has_one_store() ? 1u : (unsigned)SHARDS); i++) {
+        sqlite3 *db = store_of(i);
+        if (db == NULL)
+            continue;
+        look_at_table(db, "aside", &last_aside[i], take_asides);
+        look_at_table(db, "effect", &last_effect[i], take_effects);
+        if (has(KIND_COPIED))
+            (void)sqlite3_exec(db, "SELECT name FROM session JOIN opened USING (name) WHERE session.shard !="
+                               " opened.shard", take_elsewhere, NULL, NULL); /* the tables may not be there yet */
     }
 }
 
@@ -148,8 +185,10 @@ static int take_text(void *given, int count, char **values, char **names)
         else
             high = middle;
     }
-    if (name < world.names && low < looked_at->count[name] && looked_at->marks[name][low].id == id)
+    if (name < world.names && low < looked_at->count[name] && looked_at->marks[name][low].id == id) {
         world.name[name].waits[looked_at->marks[name][low].serial] = 1;
+        world.name[name].sealed_in[looked_at->marks[name][low].serial] = digest_of(values[0]);
+    }
     return 0;
 }
 
@@ -162,22 +201,27 @@ static int take_said(void *given, int count, char **values, char **names)
     (void)names;
     if (name >= world.names)
         return 0;
+    it->stands = (unsigned)strtoul(values[2], NULL, 10);
     it->said |= values[1] != NULL ? SAID_TO_BE_STOPPED : SAID_TO_STAND;
-    if (values[1] != NULL && (strstr(values[1], "this outbox") != NULL || strstr(values[1], "older") != NULL))
-        it->was_stopped = 1;
+    if (values[1] == NULL || (strstr(values[1], "this outbox") == NULL && strstr(values[1], "older") == NULL))
+        return 0;
+    it->was_stopped = 1;
+    if (!it->is_struck && !has(KIND_RESTORED))
+        rule_broken(RULE_UNTRUE, "s%u is stopped as one of an older or another outbox, and there is none", name);
     return 0;
 }
 
 static void look_at_said(struct box *it)
 {
-    (void)box_run(it, "SELECT session, reason FROM stopped", take_said, NULL); /* they can be read */
-    (void)box_run(it, "SELECT name, NULL FROM session WHERE stands != 0", take_said, NULL);
+    (void)box_run(it, "SELECT session, reason, 0 FROM stopped", take_said, NULL); /* they can be read */
+    (void)box_run(it, "SELECT name, NULL, stands FROM session WHERE stands != 0", take_said, NULL);
 }
 
 /* Each text is in its outbox, or it had its outcome. Answers how many of them had none. */
 static unsigned look_at_texts(const struct box *of, unsigned name)
 {
     const struct name *it = &world.name[name];
+    int is_prompt = is_calm() && !has(KIND_SILENT) && !has(KIND_SKEWED);
     unsigned i, undone = 0;
     for (i = 0; i < of->count[name]; i++) {
         unsigned serial = of->marks[name][i].serial;
@@ -187,15 +231,32 @@ static unsigned look_at_texts(const struct box *of, unsigned name)
         if (is_done && undone > 0 && has_order() && !it->has_advanced)
             rule_broken(RULE_OVERTAKEN, "s%u text %u had its outcome before an older one", name, serial);
         undone += !is_done;
+        if (!is_done && is_prompt && world.second > (unsigned)it->put_at[serial] + PROMPT)
+            rule_broken(RULE_LATE, "s%u text %u had no effect within %d seconds of a calm run", name, serial, PROMPT);
     }
     return undone;
+}
+
+/* A stream's session begins once all of the session before took effect: also where there are two outboxes. */
+static void look_at_sessions(const struct box *of, unsigned name)
+{
+    const struct name *it = &world.name[name];
+    unsigned i, before = 0;
+    for (i = 0; i < of->count[name]; i++) {
+        unsigned serial = of->marks[name][i].serial;
+        if (it->outcome[serial] == NOTHING_YET && it->waits[serial] && before == 0)
+            before = it->sealed_in[serial];
+        if (before != 0 && i >= of->own_from[name] && it->outcome[serial] == TOOK_EFFECT && it->took_in[serial] != before)
+            rule_broken(RULE_OVERTAKEN, "s%u text %u took effect in a session that began too early", name, serial);
+    }
 }
 
 /* At the end all is done, or the outbox says why not; soon after the faults, if nothing was done to the session. */
 static void look_at_undone(unsigned name, unsigned undone, int is_end)
 {
     const struct name *it = &world.name[name];
-    if (undone > 0 && world.second == DISTURBED + PUNCTUAL && !it->is_struck)
+    int may_be_late = it->is_struck || (is_stream(name) && has(KIND_KEYS)); /* a key is tried again after some minutes */
+    if (undone > 0 && world.second == world.disturbed + PUNCTUAL && !may_be_late)
         rule_broken(RULE_LATE, "s%u has %u texts without effect after %d fair seconds, and nothing was done to it", name,
                     undone, PUNCTUAL);
     if (undone == 0 || !is_end)
@@ -216,15 +277,18 @@ static void look_at_box(struct box *it, int is_end)
     looked_at = it;
     (void)box_run(it, "SELECT session, id FROM text UNION ALL SELECT session, text FROM sealed", take_text, NULL);
     look_at_effects();
-    for (name = 0; name < world.names; name++)
+    for (name = 0; name < world.names; name++) {
         look_at_undone(name, look_at_texts(it, name), is_end);
+        if (is_stream(name))
+            look_at_sessions(it, name);
+    }
 }
 
 static void look_at_boxes(int with_texts, int is_end)
 {
     unsigned i;
     for (i = 0; i < world.names; i++)
-        world.name[i].said = 0;
+        world.name[i].said = world.name[i].stands = 0;
     for (i = 0; i < BOXES; i++)
         if (world.boxes[i].is_used)
             look_at_said(&world.boxes[i]);
@@ -260,7 +324,7 @@ static void look_at_calls(void)
 static void look_at_runs(unsigned name)
 {
     const struct poison *poison = effects_first_poison();
-    unsigned long causes = faults.of_stores + world.kills + world.ends;
+    unsigned long causes = faults.of_stores + world.kills + world.stops + world.ends;
     unsigned long most = EFFECTS + EFFECTS_OF_A_FAULT * (has(KIND_SLOW_EFFECTS) ? causes - world.kills : causes);
     unsigned i;
     if (poison != NULL && poison->name == name)
@@ -271,16 +335,91 @@ static void look_at_runs(unsigned name)
                         " watchdog", name, i, effects_run(name, i), causes, effects_watchdogs());
 }
 
+/* ---- What is known of a calm run */
+
+static void look_at_repeats(unsigned name)
+{
+    unsigned i, again = 0, most = has(KIND_SKEWED) ? AGAIN - 1 : AGAIN;
+    for (i = 1; i < world.name[name].serials; i++) {
+        again += frames_left(name, i) > most;
+        if (frames_left(name, i) > TIMES)
+            rule_broken(RULE_FLOOD, "s%u: frame %u left %u times in a calm run", name, i, frames_left(name, i));
+    }
+    if (again > MOST_AGAIN)
+        rule_broken(RULE_FLOOD, "s%u: %u frames left more than %u times in a calm run", name, again, most);
+}
+
+/* Whether the outbox says of a session what is so. */
+static void look_at_stands(struct name *it, unsigned name)
+{
+    unsigned last = it->serials > 0 ? it->serials - 1 : 0;
+    it->was_refused |= it->stands == KRBRELAY_STANDS_REFUSED;
+    if (it->said != 0 && world.second >= CALM_FROM && world.second < CALM_UNTIL && !has(KIND_SKEWED) && !has(KIND_SILENT))
+        rule_broken(RULE_UNTRUE, "s%u is said to stand, and it doesn't", name);
+    if (has(KIND_SKEWED) && !has(KIND_SILENT) && !is_stream(name) && world.second == REFUSED_UNTIL && it->serials > 0
+        && it->outcome[last] == NOTHING_YET && it->put_at[last] < REFUSED_FROM && !it->was_refused)
+        rule_broken(RULE_UNTRUE, "receivers refused s%u, and the outbox has never said so", name);
+}
+
+static void look_at_calm(void)
+{
+    unsigned name, receipts;
+    for (name = 0; name < world.names; name++) {
+        receipts = frames_receipts(name);
+        if (receipts > RECEIPTS)
+            rule_broken(RULE_CHATTER, "s%u has %u receipts in a second", name, receipts);
+        look_at_repeats(name);
+        look_at_stands(&world.name[name], name);
+    }
+}
+
+static int take_number(void *given, int count, char **values, char **names)
+{
+    (void)count;
+    (void)names;
+    *(unsigned long *)given = values[0] != NULL ? strtoul(values[0], NULL, 10) : 0;
+    return 0;
+}
+
+/* Once all is done nothing of it is left. Of a stream the last two sessions are known. */
+static void look_at_rest(void)
+{
+    unsigned long frames = 0, sealed = 0, opened = 0;
+    unsigned name;
+    (void)box_run(&world.boxes[0], "SELECT count(*) FROM frame", take_number, &frames); /* they can be read */
+    (void)box_run(&world.boxes[0], "SELECT count(*) FROM sealed", take_number, &sealed);
+    (void)box_run(&world.boxes[0], "SELECT max(many) FROM (SELECT count(*) AS many FROM opened GROUP BY stream)", take_number,
+                  &opened);
+    if (frames + sealed > 0)
+        rule_broken(RULE_KEPT, "the outbox has %lu frames and %lu texts of what took effect", frames, sealed);
+    if (opened > OPENED && !has(KIND_SKEWED) && !has(KIND_SILENT))
+        rule_broken(RULE_KEPT, "the outbox has %lu sessions of a stream", opened);
+    for (name = 0; name < world.names && !has(KIND_SKEWED) && !has(KIND_SILENT); name++)
+        if (frames_receipts_kept(name) > OPENED)
+            rule_broken(RULE_KEPT, "the carrier has receipts of %u sessions of s%u", frames_receipts_kept(name), name);
+}
+
+/* The carrier confirms what it takes at once: the rest is under way. */
+static void look_at_room(void)
+{
+    unsigned i;
+    for (i = 0; i < SHARDS; i++) {
+        unsigned long number = frames_under_way(i);
+        if (has(KIND_MANY) && number > UNDER_WAY)
+            rule_broken(RULE_CROWDED, "%lu frames left for a shard in a second, and weren't confirmed", number);
+    }
+}
+
 /* ---- What is said of it */
 
 static void look_at_health(void)
 {
-    int has_had_time = now - faults.carrier_at > 30 * SECOND && now - world.resumes[SENDER] < SECOND;
+    int has_had_time = !has_been_faulty() && now - world.resumes[SENDER] < SECOND;
     if (said.nothing_confirmed > 0)
         rule_broken(RULE_AWAY, "the sender says that nothing is confirmed, by a carrier that works");
     if (world.is_up[SENDER] && has_had_time && now > said.worked_at + UNHEALTHY * SECOND)
         rule_broken(RULE_UNHEALTHY, "the sender hasn't been healthy for %d s, by a carrier that works", UNHEALTHY);
-    unseen = world.full > 0 ? unseen + 1 : 0;
+    unseen = world.full > 0 && world.is_up[SENDER] && !has_been_faulty() && !world.boxes[1].is_used ? unseen + 1 : 0;
     world.full = 0;
     if (unseen > UNSEEN && said.waiting < 0.9 * said.bound)
         rule_broken(RULE_FULL_UNSEEN, "the outbox refuses texts, and waiting_texts is %.0f of %.0f", said.waiting, said.bound);
@@ -304,13 +443,16 @@ void rules_second(void)
 {
     unsigned i;
     look_at_effects();
-    look_at_boxes(world.second % LOOKED_EACH == 0 || has(KIND_FORKED), 0);
+    look_at_boxes(world.second % LOOKED_EACH == 0 || (has(KIND_FORKED) && world.second < world.disturbed), 0);
     for (i = 0; i < world.names; i++) {
         look_at_frames(i);
         look_at_runs(i);
     }
     look_at_calls();
     look_at_health();
+    look_at_room();
+    if (is_calm())
+        look_at_calm();
     for (i = SENDER; i < PARTIES; i++)
         if (party_bytes((int)i) > MOST_BYTES)
             rule_broken(RULE_LEAKS, "program %u has %lu bytes", i, (unsigned long)party_bytes((int)i));
@@ -318,6 +460,8 @@ void rules_second(void)
 
 void rules_end(void)
 {
-    look_at_boxes(1, world.second >= DISTURBED + FAIR);
+    look_at_boxes(1, world.second >= world.disturbed + FAIR);
     look_at_refused();
+    if (is_calm() && world.second < world.disturbed + FAIR)
+        look_at_rest();
 }

@@ -13,7 +13,7 @@
 
 #pragma GCC diagnostic ignored "-Wunused-parameter"
 
-enum { FIRST_BYTE = 0x6e, DIGEST = 8, LIFE = 3600 };
+enum { FIRST_BYTE = 0x6e, DIGEST = 8, LIFE = 3600, READABLE = 4 };
 
 struct kerberos { const struct kerberos_options *options; };
 struct tickets { int has_tried; };
@@ -33,7 +33,7 @@ static void digest_of(const void *bytes, size_t len, uint8_t digest[DIGEST])
 static int can_read_keys(void)
 {
     port_is_killed();
-    if (!faults.has_no_keys)
+    if (!faults.has_no_keys[is_sender(running)] || drawn(READABLE) == 0)
         return 1;
     happened(KIND_KEYS, 1);
     faults.injected++;

@@ -20,6 +20,9 @@ static int has_opened[RECEIVERS];
 static struct shard_options shards;
 static char store[PATHS], sessions_path[PATHS];
 
+/* The file of sessions that each receiver has, and a later one that it has from a moment on. */
+static struct its { struct sessions *now, *later; uint64_t from; } files[RECEIVERS];
+
 /* ---- The file of sessions */
 
 void ends_write_sessions(void)
@@ -40,12 +43,26 @@ void ends_write_sessions(void)
         exit(2);
 }
 
-void ends_use_sessions(void)
+void ends_use_sessions(unsigned within)
 {
     struct sessions *file = sessions_read(sessions_path);
-    if (file != NULL)
-        serving_use(file);
+    unsigned i;
+    for (i = 0; i < RECEIVERS && file != NULL; i++) {
+        sessions_forget(files[i].later);
+        files[i].later = sessions_share(file);
+        files[i].from = now + (within > 0 ? drawn(within) * MILLISECOND : 0);
+    }
     sessions_forget(file);
+}
+
+static void give_sessions(struct its *to)
+{
+    if (to->later != NULL && to->from <= now) {
+        sessions_forget(to->now);
+        to->now = to->later;
+        to->later = NULL;
+    }
+    serving_use(to->now);
 }
 
 /* Streams are in all shards. */
@@ -140,6 +157,8 @@ void ends_step(int party)
     int was_up = world.is_up[party];
     uint64_t took = 0;
     world.steps++;
+    if (!is_sender(party))
+        give_sessions(&files[party - RECEIVER]);
     if (party_run(party, (was_up ? steps : starts)[is_sender(party)], &took)) {
         world.is_up[party] = 0;
         world.kills++;
@@ -172,6 +191,11 @@ uint64_t ends_next(void)
     return at;
 }
 
+int has_one_store(void)
+{
+    return has(KIND_MOVED) || has(KIND_COPIED);
+}
+
 /* With an effect that is refused one receiver alone serves a shard, so that its refusals are counted. */
 static int has_effects(void)
 {
@@ -180,12 +204,12 @@ static int has_effects(void)
 
 static void choose_options(void)
 {
-    path_of(store, has(KIND_MOVED) ? "store.db" : "store-%.db");
+    path_of(store, has_one_store() ? "store.db" : "store-%.db");
     memmove(store + strlen("sqlite:"), store, strlen(store) + 1);
     memcpy(store, "sqlite:", strlen("sqlite:"));
     shards = (struct shard_options){ .store = store, .carrier = { .where = "memory", .replicas = 1 },
                                      .kerberos = kerberos(), .batch = has(KIND_SLOW_EFFECTS) ? LONG_BATCH : BATCH,
-                                     .skew = has(KIND_CLOCK) ? SKEW : LONG_SKEW };
+                                     .skew = has(KIND_CLOCK) || has(KIND_SKEWED) ? SKEW : LONG_SKEW };
     (void)effects_choose(NULL, has(KIND_ASIDE) ? TRIES : 0); /* it only fails for a word */
 }
 
@@ -201,7 +225,7 @@ void ends_begin(void)
     ends_write_sessions();
     if (serving_begin(&shards, sessions_empty(), 1) != 0)
         exit(2);
-    ends_use_sessions();
+    ends_use_sessions(0);
     world.shown = 0;
     ends_write_sessions();
 }

@@ -8,7 +8,7 @@ enum { MOST_NAMES = 220, MOST_TEXTS = 2600, MOST_POISONS = 64 };
 
 /* Which of the session's calls fail: chances are of 1,000, that of memory of 100,000. */
 struct faults {
-    unsigned lost, twice, carrier, slow, killed, database, memory, unknown;
+    unsigned lost, twice, carrier, slow, killed, database, memory, unknown, uncommitted;
     unsigned slow_effects;          /* milliseconds of each */
     const char *statement;          /* a statement with these words fails .. */
     int of_receivers, is_unreadable; /* .. of a receiver, or of a sender; its kind is that of the table frame */
@@ -16,7 +16,9 @@ struct faults {
     uint64_t from, until;           /* between these moments, */
     int code;                       /* with this code */
     int64_t clock[PARTIES];         /* seconds by which a clock is ahead */
-    int has_no_keys, has_no_tickets; /* the keytab can't be read; the KDC is away */
+    int has_no_keys[2], has_no_tickets; /* most keys can't be read, of a receiver and of a sender; the KDC is away */
+    int loses_frame, loses_confirmation; /* the next one is lost, */
+    int loses_receipts, is_silent;  /* all of them are; what is published is */
     int is_over;                    /* the world is fair from now on */
     uint64_t carrier_at;            /* when frames couldn't leave last, or nobody could hear of them */
     unsigned long injected, of_stores; /* faults so far, and those of stores */
@@ -34,14 +36,20 @@ unsigned name_of(const char *session);
 
 void frames_begin(void);
 
-/* A shard is another list from now on; its last frames are gone; the kept receipts are gone; whether one is kept. */
+/* A shard is another list from now on; its last frames are gone; the kept receipts are gone; how many are kept of sessions of
+ * a name. */
 void frames_delete(unsigned shard);
 void frames_cut(unsigned shard, unsigned count);
 void frames_purge(void);
-int frames_have_receipt(unsigned name);
+unsigned frames_receipts_kept(unsigned name);
 
-/* Frames that were published: of a name, and of all. */
+/* Frames that were published of a name; how often the one of a number of its session was. */
 unsigned long frames_published(unsigned name);
+unsigned frames_left(unsigned name, unsigned number);
+
+/* Since the last look: how many frames left of a shard, beside those that were confirmed; receipts of a name. */
+unsigned long frames_under_way(unsigned shard);
+unsigned frames_receipts(unsigned name);
 
 /* ---- Effects (refusing.c) */
 
@@ -65,5 +73,8 @@ struct said {
 };
 extern struct said said;
 void said_begin(void);
+
+/* Whether the carrier, or what is needed for frames to leave, was faulty just now. */
+int has_been_faulty(void);
 
 #endif

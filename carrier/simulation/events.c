@@ -11,10 +11,12 @@ enum {
     EACH_BURST = 8, AWAY_OF_IT = 3,     /* of each eight, where there are bursts; */
     SPOILT_AWAY = 25, SPOILT = 31,      /* so that frames wait, when one of them is spoilt */
     REFUSED_FROM = 12, POISONS = 30, A_WHILE = 20,
-    COPIED = 10, COPIED_WITHIN = 8, FORKED = 20, FORKED_UNTIL = 24, TAKEN_OVER = 25, RESTORED = 34, ADDED_AFTER = 36,
+    COPIED = 10, COPIED_WITHIN = 8, FORKED_UNTIL = 24, TAKEN_OVER = 25, RESTORED = 34, ADDED_AFTER = 36,
     MOVED_EACH = 12, MOVED = 8,
     CLOCK_FROM = 15, CLOCK_UNTIL = 50, BOUNDED_FROM = 15, BOUNDED_UNTIL = 50,
-    LATER_BY = 3, HOURS = 3 * 3600, ALWAYS = 1000, STATEMENT = 240
+    LOST_FRAME = 20, LOST_CONFIRMATION = 30, LOST_RECEIPTS = 38, LOST_UNTIL = 43,
+    SILENT_FROM = 20, SILENT_UNTIL = 50, SKEWED_FROM = 10, SKEWED_UNTIL = 58,
+    LATER_BY = 3, UNEVEN = 10000, HOURS = 3 * 3600, ALWAYS = 1000, STATEMENT = 240
 };
 #define NEVER UINT64_MAX
 
@@ -53,9 +55,27 @@ static void draw_chances(void)
     faults.slow = has(KIND_SLOW) && drawn(4) == 0 ? 5 : 0;
     faults.database = has(KIND_DATABASE) && drawn(4) == 0 ? 1 + drawn(20) : 0;
     faults.unknown = has(KIND_STORE_UNKNOWN) || has(KIND_OUTBOX_UNKNOWN) ? 30 : 0;
+    faults.uncommitted = has(KIND_UNCOMMITTED) && drawn(5) == 0 ? 800 : 0;
     faults.memory = has(KIND_MEMORY) && drawn(3) == 0 ? 100 : 0;
     faults.killed = has(KIND_KILLED) && drawn(5) == 0 ? 20 : 0;
     faults.slow_effects = has(KIND_SLOW_EFFECTS) ? 400 : 0;
+}
+
+/* One frame, one confirmation, and the last receipts. */
+static void lose_one(void)
+{
+    if (!has(KIND_CALM))
+        return;
+    faults.loses_frame = world.second == LOST_FRAME;
+    faults.loses_confirmation = world.second == LOST_CONFIRMATION;
+    faults.loses_receipts = is_between(LOST_RECEIPTS, LOST_UNTIL);
+}
+
+static void be_silent(void)
+{
+    faults.is_silent = has(KIND_SILENT) && is_between(SILENT_FROM, SILENT_UNTIL);
+    if (faults.is_silent)
+        faults.carrier_at = now;
 }
 
 /* ---- Streams */
@@ -64,7 +84,9 @@ static void draw_chances(void)
 static void take_keys(void)
 {
     if (has(KIND_KEYS) && drawn(3) == 0)
-        faults.has_no_keys = drawn(2) == 0;
+        faults.has_no_keys[drawn(2)] = drawn(2) == 0;
+    if (has(KIND_KEYS) && has(KIND_FORKED) && is_between(FORKED - 1, FORKED + 1))
+        faults.has_no_keys[1] = 1;
     if (has(KIND_KDC) && drawn(3) == 0)
         faults.has_no_tickets = drawn(2) == 0;
 }
@@ -124,6 +146,18 @@ static void stop_one(int party)
     ends_stop(party, (int)drawn(2), now + drawn(3000) * MILLISECOND);
 }
 
+/* It is stopped, and wakes. */
+static void hold_one(int party)
+{
+    if (!world.is_up[party])
+        return;
+    happened(KIND_STOPPED, 1);
+    world.stops++;
+    if (is_sender(party))
+        faults.carrier_at = now; /* it hears of no confirmation */
+    world.resumes[party] = now + drawn(6000) * MILLISECOND;
+}
+
 /* Receivers come back after a while: so receipts of a fork come late. */
 static void hold_receivers(void)
 {
@@ -152,6 +186,8 @@ static void stop_programs(void)
         stop_one(SENDER);
         stop_one(RECEIVER + (int)drawn(RECEIVERS));
     }
+    if (has(KIND_STOPPED) && drawn(2) == 0)
+        hold_one(SENDER + (int)drawn(PARTIES - SENDER));
     if (has(KIND_FORKED) && has(KIND_KILLED) && is_between(FORKED, FORKED_UNTIL))
         hold_receivers();
     if (has(KIND_BOUNDED))
@@ -231,7 +267,7 @@ static void forbid(const sqlite3_int64 next[MOST_NAMES], const char sealed[MOST_
         if (next[i] <= next_of_copy[i] && !is_stream(i))
             continue;
         it->has_advanced = it->is_struck = 1;
-        if (sealed[i] || !frames_have_receipt(i) || is_stream(i))
+        if (sealed[i] || !frames_receipts_kept(i) || is_stream(i))
             continue;
         it->is_forbidden = 1;
         it->forbidden_from = it->serials;
@@ -319,7 +355,7 @@ static void change_sessions(void)
     if (!moves && !adds)
         return;
     ends_write_sessions();
-    ends_use_sessions();
+    ends_use_sessions(moves ? UNEVEN : 0);
 }
 
 /* ---- A row of the outbox */
@@ -361,7 +397,7 @@ static void poison(unsigned name, unsigned count, int is_error, uint64_t until)
     for (i = count; i > 0; i--)
         effects_poison((struct poison){ name, world.name[name].serials + i - 1, is_error, until });
     for (i = 0; i < world.names && until == NEVER; i++)
-        if (i == name || (!has(KIND_ASIDE) && world.name[i].shard == world.name[name].shard))
+        if (i == name || (!has(KIND_ASIDE) && (has(KIND_MOVED) || world.name[i].shard == world.name[name].shard)))
             world.name[i].is_struck = 1;
 }
 
@@ -377,10 +413,23 @@ static void refuse_texts(void)
         poison(drawn(world.names), POISONS, 0, NEVER);
 }
 
+/* Receivers refuse all frames until their clocks are right. */
+static void set_clocks_of_receivers(void)
+{
+    int i, is_wrong = is_between(SKEWED_FROM, SKEWED_UNTIL);
+    for (i = RECEIVER; i < PARTIES; i++)
+        faults.clock[i] = is_wrong ? HOURS : 0;
+    happened(KIND_SKEWED, is_wrong != 0);
+    if (is_wrong)
+        faults.carrier_at = now;
+}
+
 /* Frames that are sealed by a wrong clock are refused until it is right. */
 static void set_clocks(void)
 {
     unsigned i;
+    if (has(KIND_SKEWED))
+        set_clocks_of_receivers();
     if (!has(KIND_CLOCK))
         return;
     faults.clock[SENDER] = is_between(CLOCK_FROM, CLOCK_UNTIL) ? HOURS : 0;
@@ -393,11 +442,13 @@ static void set_clocks(void)
 
 void events_second(void)
 {
-    if (has(KIND_LATER) && world.second == DISTURBED + LATER_BY)
-        ends_use_sessions(); /* which has the line that was missing */
-    if (world.second >= DISTURBED)
+    if (has(KIND_LATER) && world.second == world.disturbed + LATER_BY)
+        ends_use_sessions(0); /* which has the line that was missing */
+    if (world.second >= world.disturbed)
         return;
     draw_chances();
+    lose_one();
+    be_silent();
     take_keys();
     strike_some();
     stop_programs();

@@ -5,7 +5,8 @@
 #include <stdlib.h>
 #include <string.h>
 
-enum { MOST = 40, BURST = 1200, MOST_OF_BURSTS = 2400, TOGETHER = 8, OF_MANY = 16, STATEMENT = 200 };
+enum { MOST = 40, BURST = 1200, MOST_OF_BURSTS = 2400, TOGETHER = 8, OF_MANY = 16, STATEMENT = 200,
+       MANY_FIRST = 3, MANY_SECOND = 6, MANY_SILENT = 23 /* seconds */ };
 
 static void must(int is_so, const char *what)
 {
@@ -55,29 +56,33 @@ void box_put(struct box *it, unsigned name)
         happened(KIND_BOUNDED, is_full != 0);
         return;
     }
+    of->put_at[of->serials] = (unsigned short)world.second;
     room_of(it, name)[it->count[name]++] = (struct mark){ sqlite3_last_insert_rowid(it->application), of->serials++ };
     happened(KIND_MANY, has(KIND_MANY) != 0);
 }
 
-/* Of many names each has its texts in one of two seconds. */
+/* Of many names each has its texts in one of two seconds, or all in one while the carrier is silent. */
 static void put_many(struct box *it)
 {
     unsigned half = world.names / 2, name, i;
-    if (world.second != 3 && world.second != 6)
+    int is_first = world.second == (has(KIND_SILENT) ? MANY_SILENT : MANY_FIRST);
+    if (!is_first && (has(KIND_SILENT) || world.second != MANY_SECOND))
         return;
-    for (name = 0; name < half; name++)
-        for (i = 0; i < OF_MANY; i++)
-            box_put(it, world.second == 3 ? name : half + name);
+    for (name = is_first ? 0 : half; name < (is_first && !has(KIND_SILENT) ? half : world.names); name++)
+        for (i = 0; i < limited(LIMIT_TEXTS, OF_MANY); i++)
+            box_put(it, name);
 }
 
 void box_put_some(struct box *it)
 {
-    unsigned name = drawn(world.names), most = has(KIND_BURSTS) ? MOST_OF_BURSTS : MOST, count;
+    unsigned name = drawn(world.names), most = limited(LIMIT_TEXTS, has(KIND_BURSTS) ? MOST_OF_BURSTS : MOST), count;
     int is_burst = has(KIND_BURSTS) && drawn(8) == 0;
     if (has(KIND_MANY)) {
         put_many(it);
         return;
     }
+    if (has(KIND_FORKED) && is_stream(world.names - 1) && world.second < FORKED)
+        name = world.second == FORKED - 1 ? world.names - 1 : name % (world.names - 1); /* it begins just before the copy */
     happened(KIND_BURSTS, is_burst != 0);
     (void)box_run(it, "BEGIN IMMEDIATE", NULL, NULL); /* a sender that writes is over before */
     for (count = is_burst ? BURST : 1 + drawn(TOGETHER); count > 0 && it->count[name] < most; count--)
@@ -89,7 +94,7 @@ void box_copy_marks(struct box *to, const struct box *from)
 {
     unsigned i;
     for (i = 0; i < world.names; i++) {
-        to->count[i] = from->count[i];
+        to->count[i] = to->own_from[i] = from->count[i];
         if (from->count[i] > 0)
             memcpy(room_of(to, i), from->marks[i], from->count[i] * sizeof *from->marks[i]);
     }
