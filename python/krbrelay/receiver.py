@@ -5,7 +5,7 @@ from ctypes import byref, c_size_t, c_uint8, c_uint32, c_uint64
 from typing import List, NamedTuple, Optional, Sequence, Union
 
 from krbrelay.errors import Code, Refusal, exception_of
-from krbrelay.handle import Handle, Key
+from krbrelay.handle import Handle, Key, Owed
 from krbrelay.library import MOST_FRAMES, FrameStruct, TakenStruct
 from krbrelay.opener import expect_struct
 from krbrelay.values import (
@@ -90,10 +90,10 @@ class Receiver(Handle):
         content, moment = bytes_of("the message", frame), moment_struct(at)
         room = len(content)
         kept = KeptRecord(room)
+        owed: Owed[Record] = kept
         try:
-            made: Record = self._made(kept, "take_numbered", content, room, moment, kept.kind,
-                                      kept.at, room, byref(kept.size), kept.number)
-            return made
+            return self._made(owed, "take_numbered", content, room, moment, kept.kind, kept.at, room,
+                              byref(kept.size), kept.number)
         except Refusal as refusal:
             _numbered(refusal, kept.number.value)
             raise
