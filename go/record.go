@@ -1,3 +1,5 @@
+//go:build cgo
+
 // What a receiver takes.
 
 package krbrelay

@@ -19,6 +19,19 @@ pub struct Message<'a> {
     pub confounder: Confounder,
 }
 
+/// The messages of user data, now, with confounders of the system's.
+#[cfg(feature = "std")]
+pub(crate) fn messages_now(user_data: &[impl AsRef<[u8]>]) -> Result<Vec<Message<'_>>, ManyError> {
+    let why = |error| ManyError { index: None, error };
+    let at = Moment::now().map_err(why)?;
+    let mut messages = Vec::new();
+    for it in user_data {
+        let confounder = sys::drawn().map_err(why)?;
+        messages.push(Message { user_data: it.as_ref(), at, confounder });
+    }
+    Ok(messages)
+}
+
 /// Why none of several messages was sealed.
 #[derive(Clone, Debug, PartialEq, Eq)]
 pub struct ManyError {
@@ -83,6 +96,14 @@ impl Sealer {
     /// can't be sealed, or [`Error::Memory`].
     pub fn seal_many(&mut self, messages: &[Message<'_>]) -> Result<Vec<Vec<u8>>, ManyError> {
         sys::seal_many(&mut self.0, messages)
+    }
+
+    /// [`Sealer::seal_many`] of these user data, now, each with a confounder of the system's.
+    ///
+    /// [`Error::Clock`], [`Error::Random`], and the errors of [`Sealer::seal_many`].
+    #[cfg(feature = "std")]
+    pub fn seal_many_now(&mut self, user_data: &[impl AsRef<[u8]>]) -> Result<Vec<Vec<u8>>, ManyError> {
+        self.seal_many(&messages_now(user_data)?)
     }
 
     /// The message of a record, which a [`Receiver`](crate::Receiver) takes, as [`Sealer::seal`] seals

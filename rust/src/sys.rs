@@ -797,6 +797,27 @@ pub(crate) fn now() -> Result<Moment, Error> {
     Ok(now)
 }
 
+#[cfg(feature = "std")]
+extern "C" {
+    fn getrandom(bytes: *mut u8, len: usize, flags: u32) -> isize;
+}
+
+/// A confounder of the system's. So few bytes come whole, once there are any.
+#[cfg(feature = "std")]
+pub(crate) fn drawn() -> Result<Confounder, Error> {
+    let mut confounder = Confounder::default();
+    loop {
+        // SAFETY: it writes at most so many bytes there.
+        let got = unsafe { getrandom(confounder.as_mut_ptr(), confounder.len(), 0) };
+        if got == confounder.len() as isize {
+            return Ok(confounder);
+        }
+        if got >= 0 || std::io::Error::last_os_error().kind() != std::io::ErrorKind::Interrupted {
+            return Err(Error::Random);
+        }
+    }
+}
+
 /// Whether the processor has the instructions that the library was compiled for. Where it hasn't, what
 /// makes a handle returns [`Error::Processor`].
 #[must_use]
