@@ -242,7 +242,8 @@ class Demand:
     how_number: How = How.REQUIRED
     needs_time_or_number: bool = False
     """Whether a message that tells neither its time nor its number is refused, as RFC 4120 asks in
-    sections 3.4.2 and 3.5.2."""
+    sections 3.4.2 and 3.5.2. An absent number isn't told, also where it counts as 0, and seconds
+    without microseconds tell a time only under How.ABSENT_IS_0."""
 
 
 def demand_struct(demand: Demand) -> DemandStruct:
