@@ -1,6 +1,6 @@
-//go:build cgo
-
 // What a receiver takes.
+
+//go:build cgo
 
 package krbrelay
 
