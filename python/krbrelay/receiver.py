@@ -92,8 +92,8 @@ class Receiver(Handle):
         kept = KeptRecord(room)
         owed: Owed[Record] = kept
         try:
-            return self._made(owed, "take_numbered", content, room, moment, kept.kind, kept.at, room,
-                              byref(kept.size), kept.number)
+            return self._made(owed, "take_numbered", content, room, moment, kept.kind, kept.at,
+                              room, byref(kept.size), kept.number)
         except Refusal as refusal:
             _numbered(refusal, kept.number.value)
             raise
