@@ -34,6 +34,7 @@ PLAIN = ("README.md", f"{NAME}-vectors.json.gz", f"{NAME}-vectors.schema.json", 
          *(f"debian/krbrelay_{VERSION}-1{end}" for end in (".dsc", ".debian.tar.xz", "_amd64.buildinfo")))
 OTHERS = (f"python/{NAME}.tar.gz", f"{NAME}-reference.tar.gz")
 FORMS = (f"{NAME}.intoto.json", f"{NAME}.spdx.json")
+NOTICES = {f"{NAME}.dist-info/licences/sha1": b"its licence"}
 MOST = 10       # lines of faults that a test shows
 
 
@@ -113,7 +114,7 @@ def made(tmp_path_factory):
         put(folder, path, deb(path))
     shutil.copyfile(os.path.join(folder, TARBALL), os.path.join(folder, ORIG))
     for path in WHEELS:
-        pack_wheel(os.path.join(folder, path), {"krbrelay/libkrbrelay.so.1": b"library" * 30})
+        pack_wheel(os.path.join(folder, path), {"krbrelay/libkrbrelay.so.1": b"library" * 30} | NOTICES)
     with pytest.MonkeyPatch.context() as patch:
         of_this_machine(patch)
         statement.write(folder, VERDICTS)
@@ -236,10 +237,12 @@ def test_a_package_without_code(folder):
     assert verifying.by_hashes(folder) == [f"{PACKED[1]} has no proved code"]
 
 
-def test_a_wheel_without_the_library(folder):
-    pack_wheel(os.path.join(folder, WHEEL), {"krbrelay/__init__.py": b""})
-    stated(folder)
-    assert verifying.by_hashes(folder) == [f"{WHEEL} has no library that is whole"]
+def test_a_wheel_without_the_library_or_its_notices(folder):
+    for files, lacks in ((NOTICES, "library that is whole"),
+                         ({"krbrelay/libkrbrelay.so.1": b""}, "notices of what is inside of its library")):
+        pack_wheel(os.path.join(folder, WHEEL), files)
+        stated(folder)
+        assert verifying.by_hashes(folder) == [f"{WHEEL} has no {lacks}"]
 
 
 def test_a_file_less_and_a_file_more(folder):

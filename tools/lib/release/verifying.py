@@ -166,8 +166,16 @@ def other_packages(folder, told):
             yield f"{path} is another package than its name says"
         if path.endswith(".orig.tar.gz") and bytes_of(folder, path) != bytes_of(folder, tarball):
             yield f"{path} isn't {tarball}"
-        if path.endswith(".whl") and "krbrelay/libkrbrelay.so.1" not in places.of_zip(bytes_of(folder, path)):
-            yield f"{path} has no library that is whole"
+        if path.endswith(".whl"):
+            yield from (f"{path} has no {it}" for it in lacking(places.of_zip(bytes_of(folder, path))))
+
+
+def lacking(wheel):
+    """What a wheel hasn't that it has to have."""
+    if "krbrelay/libkrbrelay.so.1" not in wheel:
+        yield "library that is whole"
+    if not any(".dist-info/licences/" in it for it in wheel):
+        yield "notices of what is inside of its library"
 
 
 def of_commit(told):
