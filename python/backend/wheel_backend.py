@@ -85,7 +85,7 @@ def shared_objects(folder):
 
 
 def notices():
-    """The licences of what is compiled into the library, by their names in the wheel: the tarball has them."""
+    """The licences of what is compiled into the library, by their names in the wheel."""
     folder = os.path.join(os.path.dirname(license_path()), "licences")
     for name in sorted(os.listdir(folder)) if os.path.isdir(folder) else ():
         with open(os.path.join(folder, name), "rb") as file:
