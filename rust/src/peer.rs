@@ -102,7 +102,7 @@ impl Peer {
     /// [`Error::Clock`], [`Error::Random`], and the errors of [`Peer::seal_many`].
     #[cfg(feature = "std")]
     pub fn seal_many_now(&mut self, user_data: &[impl AsRef<[u8]>]) -> Result<Vec<Vec<u8>>, ManyError> {
-        self.seal_many(&crate::sealer::messages_now(user_data)?)
+        sys::peer_seal_many_now(&mut self.0, &crate::sealer::user_data_alone(user_data))
     }
 
     /// [`Peer::open_at`], now. [`Error::Clock`].

@@ -19,17 +19,12 @@ pub struct Message<'a> {
     pub confounder: Confounder,
 }
 
-/// The messages of user data, now, with confounders of the system's.
+/// The messages of user data, without what a call that seals them now reads of the system.
 #[cfg(feature = "std")]
-pub(crate) fn messages_now(user_data: &[impl AsRef<[u8]>]) -> Result<Vec<Message<'_>>, ManyError> {
-    let why = |error| ManyError { index: None, error };
-    let at = Moment::now().map_err(why)?;
-    let mut messages = Vec::new();
-    for it in user_data {
-        let confounder = sys::drawn().map_err(why)?;
-        messages.push(Message { user_data: it.as_ref(), at, confounder });
-    }
-    Ok(messages)
+pub(crate) fn user_data_alone(user_data: &[impl AsRef<[u8]>]) -> Vec<Message<'_>> {
+    let at = Moment { seconds: 0, microseconds: 0 };
+    let message = |it| Message { user_data: it, at, confounder: Confounder::default() };
+    user_data.iter().map(|it| message(it.as_ref())).collect()
 }
 
 /// Why none of several messages was sealed.
@@ -103,7 +98,7 @@ impl Sealer {
     /// [`Error::Clock`], [`Error::Random`], and the errors of [`Sealer::seal_many`].
     #[cfg(feature = "std")]
     pub fn seal_many_now(&mut self, user_data: &[impl AsRef<[u8]>]) -> Result<Vec<Vec<u8>>, ManyError> {
-        self.seal_many(&messages_now(user_data)?)
+        sys::seal_many_now(&mut self.0, &user_data_alone(user_data))
     }
 
     /// The message of a record, which a [`Receiver`](crate::Receiver) takes, as [`Sealer::seal`] seals
