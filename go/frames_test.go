@@ -105,6 +105,39 @@ func TestTheFirstMessageThatFailsIsNamed(t *testing.T) {
 	}
 }
 
+// Each opens at its number, and no two KRB-PRIV of the same user data are alike.
+func TestMessagesOfOneCallAreSealedNow(t *testing.T) {
+	for _, key := range [][]byte{key128, key256} {
+		sealer := must[*krbrelay.Sealer](t)(krbrelay.NewSealer(etypeOf(key), key, session(krbrelay.Priv, first)))
+		peer := peerOf(t, key, krbrelay.Priv, first)
+		opener := must[*krbrelay.Opener](t)(krbrelay.NewOpener(etypeOf(key), key, expect(krbrelay.Priv)))
+		for _, call := range []func([][]byte) ([][]byte, error){sealer.SealManyNow, peer.SealManyNow} {
+			seen := map[string]bool{}
+			for i, frame := range must[[][]byte](t)(call(make2(9))) {
+				data := must[[]byte](t)(opener.Unseal(frame, uint64(first+i), time.Now()))
+				if seen[string(frame[len(frame)-40:])] || !bytes.Equal(data, []byte("hi")) {
+					t.Errorf("message %d: %q", i, data)
+				}
+				seen[string(frame[len(frame)-40:])] = true
+			}
+			if _, err := call(make2(krbrelay.MostMessages + 1)); !errors.Is(err, krbrelay.ErrArgument) {
+				t.Errorf("too many: %v", err)
+			}
+		}
+		sealer.Close()
+		peer.Close()
+		opener.Close()
+	}
+}
+
+func make2(count int) [][]byte {
+	made := make([][]byte, count)
+	for i := range made {
+		made[i] = []byte("hi")
+	}
+	return made
+}
+
 func peerOf(t *testing.T, key []byte, mode krbrelay.Mode, number uint32) *krbrelay.Peer {
 	demand := krbrelay.DemandOf(receiver)
 	demand.Number = krbrelay.Of(uint64(9))

@@ -84,6 +84,15 @@ func (p *Peer) SealMany(messages []Message) ([][]byte, error) {
 	})
 }
 
+// SealManyNow is SealMany of these user data now, as Sealer.SealManyNow makes them.
+func (p *Peer) SealManyNow(userData [][]byte) ([][]byte, error) {
+	messages, err := messagesNow(userData)
+	if err != nil {
+		return nil, err
+	}
+	return p.SealMany(messages)
+}
+
 // Open is what a message of the other end with the expected number carries, opened at this moment, such as
 // time.Now(). The number is one more then. Its error is OutOfOrder, or ErrBadOrder of a message without a number,
 // where the message is authentic and meets all but the number. ErrMoment, ErrEmpty, a refusal, ErrMemory.

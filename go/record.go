@@ -1,5 +1,7 @@
 // What a receiver takes.
 
+//go:build cgo
+
 package krbrelay
 
 import "encoding/binary"

@@ -248,6 +248,9 @@ func TestEachDemandIsMade(t *testing.T) {
 		{"safe 17, no number", krbrelay.Demand{NeedsTimeOrNumber: true}, nil},
 		{"safe 17, neither time nor number", krbrelay.Demand{NeedsTimeOrNumber: true}, krbrelay.ErrModified},
 		{"safe 17", krbrelay.Demand{Receiver: &receiver, HowReceiver: 7}, krbrelay.ErrArgument},
+		{"safe 17", krbrelay.Demand{Number: zero, HowNumber: 3}, krbrelay.ErrArgument},
+		{"safe 17", krbrelay.Demand{Number: zero, HowNumber: 0xfffffffd}, krbrelay.ErrArgument},
+		{"safe 17", krbrelay.Demand{Skew: krbrelay.Of(uint32(0)), HowTime: 0xfffffffd}, krbrelay.ErrArgument},
 	} {
 		if _, err := opener.Open(known[it.name], it.demand, then); err != it.wanted {
 			t.Error(place, it.name, err)

@@ -6,6 +6,7 @@ package krbrelay
 import "C"
 
 import (
+	"crypto/rand"
 	"fmt"
 	"runtime"
 	"sync"
@@ -134,10 +135,13 @@ func together(messages []Message) (*several, error) {
 		size += len(it.UserData)
 		room += roomOfFrame(len(it.UserData))
 	}
+	// Of their whole size, so that nothing is copied once more as they grow.
 	all.userData, all.frames = make([]byte, 0, size), make([]byte, room)
+	all.confounders = make([]byte, 0, len(messages)*len(Message{}.Confounder))
 	for i, it := range messages {
 		now, err := moment(it.Time)
 		if err != nil {
+			all.wipe()
 			return nil, &ManyError{i, err}
 		}
 		all.userData = append(all.userData, it.UserData...)
@@ -148,11 +152,35 @@ func together(messages []Message) (*several, error) {
 	return all, nil
 }
 
-// wipe overwrites the copies of user data.
+// wipe overwrites the copies of user data and confounders.
 func (all *several) wipe() {
-	for i := range all.userData {
-		all.userData[i] = 0
+	for _, copies := range [][]byte{all.userData, all.confounders} {
+		for i := range copies {
+			copies[i] = 0
+		}
 	}
+}
+
+// SealManyNow is SealMany of these user data now, each with a confounder of the system's. ErrRandom, and the errors
+// of SealMany.
+func (s *Sealer) SealManyNow(userData [][]byte) ([][]byte, error) {
+	messages, err := messagesNow(userData)
+	if err != nil {
+		return nil, err
+	}
+	return s.SealMany(messages)
+}
+
+// messagesNow are the messages of user data now, with confounders of the system's.
+func messagesNow(userData [][]byte) ([]Message, error) {
+	messages, now := make([]Message, len(userData)), time.Now()
+	for i := range messages {
+		messages[i].UserData, messages[i].Time = userData[i], now
+		if _, err := rand.Read(messages[i].Confounder[:]); err != nil {
+			return nil, &ManyError{-1, ErrRandom}
+		}
+	}
+	return messages, nil
 }
 
 // SealRecord is the message of a record, which a Receiver takes, as Seal seals user data. ErrRecord where the

@@ -1,4 +1,4 @@
-//go:build krbrelay_system
+//go:build cgo && krbrelay_system
 
 package krbrelay
 

@@ -177,7 +177,7 @@ func (h How) raw() C.uint32_t {
 	case AbsentIs0:
 		return C.KRBRELAY_ABSENT_IS_0
 	}
-	return C.uint32_t(h) + C.KRBRELAY_ABSENT_IS_0
+	return C.KRBRELAY_ABSENT_IS_0 + 1 // none, which the library refuses by ErrArgument
 }
 
 // Demand is what Opener.Open and a Peer demand of an authentic message: of each field that isn't nil, that the

@@ -51,6 +51,18 @@ fn tarball() -> Done<PathBuf> {
     })
 }
 
+/// The target's own tool, or the system's where that is absent: musl comes with a compiler and no more.
+fn tool_of(target: &str, tool: &str) -> String {
+    let own = format!("{}-{tool}", target.replace("-unknown", ""));
+    let path = env::var_os("PATH").unwrap_or_default();
+    let is_there = tool == "gcc" || env::split_paths(&path).any(|folder| folder.join(&own).is_file());
+    if is_there {
+        own
+    } else {
+        tool.into()
+    }
+}
+
 fn build(sources: &Path, target: &str) -> Done<()> {
     let folder = env::var("OUT_DIR")?;
     let mut make = Command::new("make");
@@ -61,9 +73,8 @@ fn build(sources: &Path, target: &str) -> Done<()> {
     make.current_dir(&folder).arg("-f").arg(sources.join("Makefile"));
     make.arg(format!("SOURCES={}", sources.display()));
     if target != env::var("HOST")? {
-        let tools = target.replace("-unknown", "");
         make.args([("CC", "gcc"), ("AR", "ar"), ("OBJCOPY", "objcopy")].map(|(name, tool)| {
-            format!("{name}={}", env::var(name).unwrap_or_else(|_| format!("{tools}-{tool}")))
+            format!("{name}={}", env::var(name).unwrap_or_else(|_| tool_of(target, tool)))
         }));
     }
     if !make.arg("libkrbrelay.a").status()?.success() {

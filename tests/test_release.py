@@ -3,8 +3,10 @@ nothing was built. What the prover says is read from what `rt ci` prints."""
 import hashlib
 import io
 import json
+import lzma
 import os
 import shutil
+import subprocess
 import tarfile
 import zipfile
 
@@ -12,7 +14,7 @@ import pytest
 
 from lib import scripts
 from lib.build import building, ci, over_gate
-from lib.release import statement, verifying
+from lib.release import attested, places, statement, verifying
 
 dist = scripts.load("c/dist")
 CODE = {"x86_64": b"# code of x86-64\n" * 9, "aarch64": b"// code of aarch64\n" * 9}
@@ -21,20 +23,49 @@ SOURCES = {f"proved/{CRATE}/src/lib.rt": os.path.join(building.folder_of(CRATE),
            "proved/crates.txt": os.path.join(building.TOP, "crates.txt")}
 TARBALL = f"{dist.name()}.tar.gz"
 STATEMENT = statement.name_of(dist.version())
-PACKED = (TARBALL, "rust/krbrelay.crate", "go/krbrelay-go.tar.gz")
-WHEEL = "python/krbrelay-py3-none-manylinux_2_25_x86_64.whl"
-PLAIN = ("README.md", "debian/libkrbrelay1.deb", "python/krbrelay.tar.gz")
+NAME, VERSION = dist.name(), dist.version()
+PACKED = (TARBALL, f"rust/{NAME}.crate", f"go/krbrelay-go-{VERSION}.tar.gz")
+WHEELS = [f"python/{NAME}-py3-none-manylinux_2_25_{machine}.whl" for machine in places.MACHINES]
+WHEEL, ORIG = WHEELS[0], f"debian/krbrelay_{VERSION}.orig.tar.gz"
+DEBS = [f"debian/{name}_{VERSION}-1_{machine}.deb" for name, machine in (
+    ("krbrelay", "amd64"), ("krbrelay-carrier", "amd64"), ("libkrbrelay1", "amd64"), ("libkrbrelay-dev", "amd64"),
+    ("python3-krbrelay", "all"))]
+PLAIN = ("README.md", f"{NAME}-vectors.json.gz", f"{NAME}-vectors.schema.json", f"{NAME}-vectors.README.md",
+         *(f"debian/krbrelay_{VERSION}-1{end}" for end in (".dsc", ".debian.tar.xz", "_amd64.buildinfo")))
+OTHERS = (f"python/{NAME}.tar.gz", f"{NAME}-reference.tar.gz")
+FORMS = (f"{NAME}.intoto.json", f"{NAME}.spdx.json")
+NOTICES = {f"{NAME}.dist-info/licences/sha1": b"its licence"}
+MOST = 10       # lines of faults that a test shows
 
 
 # ---- a folder
 
-def pack(path, files):
+def pack(path, files, links=()):
+    """Writes a tarball of files, and of links at its end: a name, the kind, and what it leads to."""
     os.makedirs(os.path.dirname(path), exist_ok=True)
     with tarfile.open(path, "w:gz") as tar:
         for place, data in files.items():
-            info = tarfile.TarInfo(f"top/{place}")
+            info = tarfile.TarInfo(f"{NAME}/{place}")
             info.size = len(data)
             tar.addfile(info, io.BytesIO(data))
+        for place, kind, leads_to in links:
+            info = tarfile.TarInfo(f"{NAME}/{place}")
+            info.type, info.linkname = kind, leads_to
+            tar.addfile(info)
+
+
+def deb(path):
+    """A package of Debian that is what its file's name says, and has nothing inside."""
+    package, version, machine = os.path.basename(path).removesuffix(".deb").split("_")
+    text, packed = f"Package: {package}\nVersion: {version}\nArchitecture: {machine}\n".encode(), io.BytesIO()
+    with tarfile.open(fileobj=packed, mode="w") as tar:
+        info = tarfile.TarInfo("./control")
+        info.size = len(text)
+        tar.addfile(info, io.BytesIO(text))
+    made = b"!<arch>\n"
+    for name, data in (("debian-binary", b"2.0\n"), ("control.tar.xz", lzma.compress(packed.getvalue())), ("data.tar.xz", b"")):
+        made += f"{name:16}{0:<12}{0:<6}{0:<6}{100644:<8}{len(data):<10}`\n".encode() + data + b"\n" * (len(data) % 2)
+    return made
 
 
 def pack_wheel(path, files):
@@ -49,17 +80,24 @@ def put(folder, path, data):
         file.write(data)
 
 
+CLAUSES = {"krb_peers": ["frames_laws.headline"], CRATE: ["lane.none", "lane.all"]}
+VERDICTS = {crate: ci.Verdict(7, 1) for crate in building.table()}
+HEAD = subprocess.run(["git", "-C", building.TOP, "rev-parse", "HEAD"], check=True, stdout=subprocess.PIPE,
+                      text=True).stdout.strip()
+
+
 def of_tarball():
-    found = {f"krbrelay-{name}.s": code for name, code in CODE.items()}
+    found = {f"krbrelay-{name}.s": code for name, code in CODE.items()} | {"heap.c": b"/* heap */", "Makefile": b"all:"}
+    found |= {f"proved/{crate}/src/all.rt": b" ".join(sorted(it.encode() for it in words)) for crate, words in CLAUSES.items()}
     return found | {place: statement.bytes_of(path) for place, path in SOURCES.items()}
 
 
 def of_rust():
-    return {f"vendor/krbrelay-{name}.s": code for name, code in CODE.items()}
+    return {f"vendor/krbrelay-{name}.s": code for name, code in CODE.items()} | {"build.rs": b"fn main() {}"}
 
 
 def of_go():
-    return {"library_amd64.s": b"//go:build it\n" + CODE["x86_64"], "library_arm64.s": b"//go:build it\n" + CODE["aarch64"]}
+    return {"library_amd64.s": b"//go:build it\n\n" + CODE["x86_64"], "library_arm64.s": b"//go:build it\n\n" + CODE["aarch64"]}
 
 
 @pytest.fixture(scope="module")
@@ -70,11 +108,26 @@ def made(tmp_path_factory):
     pack(os.path.join(folder, PACKED[2]), of_go())
     for path in PLAIN:
         put(folder, path, path.encode() * 50)
-    pack_wheel(os.path.join(folder, WHEEL), {"krbrelay/libkrbrelay.so.1": b"library" * 30})
+    for path in OTHERS:
+        pack(os.path.join(folder, path), {"README.md": path.encode()})
+    for path in DEBS:
+        put(folder, path, deb(path))
+    shutil.copyfile(os.path.join(folder, TARBALL), os.path.join(folder, ORIG))
+    for path in WHEELS:
+        pack_wheel(os.path.join(folder, path), {"krbrelay/libkrbrelay.so.1": b"library" * 30} | NOTICES)
     with pytest.MonkeyPatch.context() as patch:
-        patch.setattr(statement, "kit", lambda: "kit-of-the-test")
-        statement.write(folder, {crate: ci.Verdict(7, 1) for crate in building.table()})
+        of_this_machine(patch)
+        statement.write(folder, VERDICTS)
     return folder
+
+
+def of_this_machine(patch):
+    """What a machine with the kit and all compilers says."""
+    patch.setattr(statement, "kit", lambda: "kit-of-the-test")
+    patch.setattr(statement, "kit_files", lambda: {"rattle": "ab" * 32})
+    patch.setattr(statement, "commit", lambda: HEAD)
+    patch.setattr(statement, "clauses", lambda: {crate: {it: statement.sha256(it.encode()) for it in words}
+                                                 for crate, words in CLAUSES.items()})
 
 
 @pytest.fixture
@@ -85,16 +138,28 @@ def folder(made, tmp_path):
 
 def summed(folder):
     """Writes SHA256SUMS as the folder is now."""
-    paths = [it for it in statement.files_of(folder) if it != statement.SUMS]
+    paths = [it for it in statement.files_of(folder) if it not in (statement.SUMS, places.signature_of(VERSION))]
     put(folder, statement.SUMS, "".join(f"{statement.sha256(statement.bytes_of(folder, it))}  {it}\n" for it in paths).encode())
 
 
-def stated(folder):
-    """Has the statement name the artefacts as they are now, and SHA256SUMS all files."""
+def stated(folder, with_contents=True):
+    """Has the statement name the artefacts and their contents as they are now, its forms follow, and SHA256SUMS name
+    all files: as whoever passes on a changed folder would."""
     told = json.loads(statement.bytes_of(folder, STATEMENT))
-    for path, row in told["artefacts"].items():
-        row["sha256"] = statement.sha256(statement.bytes_of(folder, path))
+    beside = (STATEMENT, *FORMS, statement.SUMS, places.signature_of(VERSION))
+    told["artefacts"] = {path: {"sha256": statement.sha256(statement.bytes_of(folder, path)),
+                                "bytes": os.path.getsize(os.path.join(folder, path))}
+                         for path in statement.files_of(folder) if path not in beside}
+    if with_contents:
+        told["contents"] = places.contents(folder)
+    restated(folder, told)
+
+
+def restated(folder, told):
+    """Writes another statement, its forms and SHA256SUMS."""
     put(folder, STATEMENT, json.dumps(told).encode())
+    for path, data in attested.forms(told).items():
+        put(folder, path, data)
     summed(folder)
 
 
@@ -108,10 +173,10 @@ def flip(folder, path, place):
 
 def test_a_folder_as_it_was_made(made):
     assert verifying.by_hashes(made) == []
-    assert len(statement.files_of(made)) == len(PACKED) + len(PLAIN) + 3
+    assert len(statement.files_of(made)) == len(places.patterns(VERSION))
 
 
-@pytest.mark.parametrize("path", [*PACKED, *PLAIN, WHEEL, STATEMENT])
+@pytest.mark.parametrize("path", [*PACKED, *PLAIN, WHEEL, DEBS[0], ORIG, *FORMS, STATEMENT])
 @pytest.mark.parametrize("place", [0, 10, 101, -1])
 def test_one_flipped_bit_of_a_file(folder, path, place):
     flip(folder, path, place)
@@ -128,10 +193,11 @@ def test_one_flipped_bit_of_the_sums(folder):
 
 @pytest.mark.parametrize("path", [*PACKED, *PLAIN, WHEEL])
 def test_sums_that_follow_a_change(folder, path):
-    """The statement names the artefact's hash as well."""
+    """The statement names the artefact's hash as well, and what is inside has to be whole."""
     flip(folder, path, 20)
     summed(folder)
-    assert f"{STATEMENT}: {path} has other bytes than is stated" in verifying.by_hashes(folder)
+    faults = verifying.by_hashes(folder)
+    assert f"{STATEMENT}: {path} has other bytes than is stated" in faults or faults[0].startswith(f"{path}: ")
 
 
 @pytest.mark.parametrize("place", [*SOURCES, "krbrelay-x86_64.s", "krbrelay-aarch64.s"])
@@ -162,7 +228,7 @@ def test_other_code_in_a_package(folder, path, files, place):
     changed[place] = changed[place][:-1] + b"!"
     pack(os.path.join(folder, path), changed)
     stated(folder)
-    assert verifying.by_hashes(folder) == [f"{path}: {place} isn't the proved code of the tarball"]
+    assert f"{path}: {place} isn't the proved code of the tarball" in verifying.by_hashes(folder)
 
 
 def test_a_package_without_code(folder):
@@ -171,10 +237,12 @@ def test_a_package_without_code(folder):
     assert verifying.by_hashes(folder) == [f"{PACKED[1]} has no proved code"]
 
 
-def test_a_wheel_without_the_library(folder):
-    pack_wheel(os.path.join(folder, WHEEL), {"krbrelay/__init__.py": b""})
-    stated(folder)
-    assert verifying.by_hashes(folder) == [f"{WHEEL} has no library that is whole"]
+def test_a_wheel_without_the_library_or_its_notices(folder):
+    for files, lacks in ((NOTICES, "library that is whole"),
+                         ({"krbrelay/libkrbrelay.so.1": b""}, "notices of what is inside of its library")):
+        pack_wheel(os.path.join(folder, WHEEL), files)
+        stated(folder)
+        assert verifying.by_hashes(folder) == [f"{WHEEL} has no {lacks}"]
 
 
 def test_a_file_less_and_a_file_more(folder):
@@ -184,13 +252,17 @@ def test_a_file_less_and_a_file_more(folder):
     assert "README.md is missing" in faults and "debian/another.deb is stated nowhere" in faults
 
 
-@pytest.mark.parametrize("lost", sorted(verifying.KEYS))
+@pytest.mark.parametrize("lost", sorted(verifying.SHAPE))
 def test_a_statement_that_lacks_a_part(folder, lost):
     told = json.loads(statement.bytes_of(folder, STATEMENT))
     del told[lost]
     put(folder, STATEMENT, json.dumps(told).encode())
     summed(folder)
     assert verifying.by_hashes(folder) == [f"{STATEMENT} isn't a statement of form {statement.FORM}"]
+    for wrong in (None, [], {}, "", -1, {"a": None}, [None]):
+        put(folder, STATEMENT, json.dumps(told | {lost: wrong}).encode())
+        summed(folder)
+        assert any(STATEMENT in it for it in verifying.by_hashes(folder)), wrong
 
 
 def test_a_folder_without_sums_or_statement(folder):
@@ -209,6 +281,145 @@ def test_the_command_counts_it(folder, capsys):
     assert capsys.readouterr().out.splitlines()[-1] == "0 passed, 1 failed"
 
 
+def swap(folder, one, other):
+    first, second = statement.bytes_of(folder, one), statement.bytes_of(folder, other)
+    put(folder, one, second)
+    put(folder, other, first)
+
+
+def linked(folder, path, tmp_path):
+    """A file or a folder stands elsewhere, and a symbolic link leads to it."""
+    shutil.move(os.path.join(folder, path), tmp_path / "elsewhere")
+    os.symlink(tmp_path / "elsewhere", os.path.join(folder, path))
+
+
+def lost(folder, *paths):
+    for path in paths:
+        os.remove(os.path.join(folder, path))
+    stated(folder)
+
+
+def repacked(folder, path, files, links=(), with_contents=False):
+    pack(os.path.join(folder, path), files, links)
+    if path == TARBALL:
+        shutil.copyfile(os.path.join(folder, TARBALL), os.path.join(folder, ORIG))
+    stated(folder, with_contents)
+
+
+def told_of(folder, change):
+    told = json.loads(statement.bytes_of(folder, STATEMENT))
+    change(told)
+    restated(folder, told)
+
+
+def sums_with(folder, change):
+    put(folder, statement.SUMS, change(statement.bytes_of(folder, statement.SUMS).decode()).encode())
+
+
+def other_wheel(folder, tmp_path):
+    put(folder, f"python/{NAME}.post1-py3-none-manylinux_2_25_x86_64.whl", statement.bytes_of(folder, WHEEL))
+    stated(folder)
+
+
+def other_version(folder, tmp_path):
+    """The tarball is read outside of the folder."""
+    shutil.copy(os.path.join(folder, TARBALL), tmp_path / "krbrelay-elsewhere.tar.gz")
+    told_of(folder, lambda told: told.update(version="x/../../krbrelay-elsewhere"))
+
+
+def key_twice(folder, tmp_path):
+    put(folder, STATEMENT, statement.bytes_of(folder, STATEMENT).replace(b"{", b'{"commit": "' + b"f" * 40 + b'",', 1))
+    summed(folder)
+
+
+def renamed(folder, tmp_path):
+    os.rename(os.path.join(folder, STATEMENT), os.path.join(folder, "krbrelay-7.0.0.proof.json"))
+    summed(folder)
+
+
+def no_crates(told):
+    told["crates"].clear()
+    told["trusted"].clear()
+
+
+def more_functions(told):
+    for it in told["crates"].values():
+        it["functions"] *= 10
+        it["clauses"]["made_up.is_constant_time"] = "0" * 64
+
+
+X86 = "krbrelay-x86_64.s"
+# What is done to a folder, and a word of what is said of it. Who changes an artefact has all digests follow.
+MANIPULATIONS = {
+    "a byte of an artefact": (lambda f, _: flip(f, DEBS[0], -5), DEBS[0]),
+    "an artefact, and the sums follow": (lambda f, _: (flip(f, DEBS[0], -5), summed(f)), DEBS[0]),
+    "two debs swapped": (lambda f, _: swap(f, DEBS[2], DEBS[3]), DEBS[2]),
+    "two debs swapped, and all digests follow": (lambda f, _: (swap(f, DEBS[2], DEBS[3]), stated(f)), "another package"),
+    "a file that is stated nowhere": (lambda f, _: put(f, "python/more.whl", b"x"), "stated nowhere"),
+    "a file that the sums alone state": (lambda f, _: (put(f, "python/more.json", b"x"), summed(f)), "stated nowhere"),
+    "a wheel of a higher version": (other_wheel, "post1"),
+    "a deb less": (lambda f, _: lost(f, DEBS[0]), "0 files are"),
+    "no crate for Rust": (lambda f, _: lost(f, PACKED[1]), "0 files are"),
+    "no wheels": (lambda f, _: lost(f, *WHEELS), "0 files are"),
+    "a crate less": (lambda f, _: told_of(f, lambda told: told["crates"].pop(CRATE)), "other crates"),
+    "no crates, and nothing trusted": (lambda f, _: told_of(f, no_crates), "crates isn't"),
+    "ten times the functions, and a clause": (lambda f, _: told_of(f, more_functions), "no clause made_up"),
+    "another commit": (lambda f, _: told_of(f, lambda told: told.update(commit="0" * 40)), "the commit 0000"),
+    "no commit and no kit": (lambda f, _: told_of(f, lambda told: told.update(commit="", kit="")), "commit isn't"),
+    "changes since the commit": (lambda f, _: told_of(f, lambda told: told.update(commit=HEAD + " and changes")), "commit isn't"),
+    "version 9.9.9": (lambda f, _: told_of(f, lambda told: told.update(version="9.9.9")), "9.9.9"),
+    "a version with a path": (other_version, "version isn't"),
+    "a symbolic link for a file": (lambda f, at: linked(f, DEBS[0], at), "no regular file"),
+    "a symbolic link to more": (lambda f, at: os.symlink(at, os.path.join(f, "debian", "more")), "no regular file"),
+    "a symbolic link for a folder": (lambda f, at: linked(f, "debian", at), "no regular file"),
+    "a pipe": (lambda f, _: os.mkfifo(os.path.join(f, "debian", "pipe")), "no regular file"),
+    "an empty folder": (lambda f, _: os.mkdir(os.path.join(f, "more")), "the folders are"),
+    "digests in capitals": (lambda f, _: sums_with(f, lambda text: text[:64].upper() + text[64:]), "a line isn't"),
+    "a path twice": (lambda f, _: sums_with(f, lambda text: "0" * 64 + text.partition("\n")[0][64:] + "\n" + text), "twice"),
+    "a path outside": (lambda f, _: sums_with(f, lambda text: text + "0" * 64 + "  ../beside\n"), "../beside"),
+    "a path by a point": (lambda f, _: sums_with(f, lambda text: text[:66] + "./" + text[66:]), "missing"),
+    "a key twice": (key_twice, "a key comes twice"),
+    "two statements": (lambda f, _: (put(f, "krbrelay-1.0.0.proof.json", b"{}"), summed(f)), "2 statements"),
+    "the statement's name": (renamed, "7.0.0"),
+    "a proved source": (lambda f, _: repacked(f, TARBALL, of_tarball() | {"proved/crates.txt": b"krb: \n"}), "crates.txt"),
+    "C beside the proved code": (lambda f, _: repacked(f, TARBALL, of_tarball() | {"heap.c": b"evil"}), "heap.c has other"),
+    "a GNUmakefile": (lambda f, _: repacked(f, TARBALL, of_tarball() | {"GNUmakefile": b"all:"}), "GNUmakefile is stated nowhere"),
+    "a hard link for code": (
+        lambda f, _: repacked(f, TARBALL, of_tarball(), [(X86, tarfile.LNKTYPE, f"{NAME}/heap.c")]), "no regular file"),
+    "a symbolic link for code": (
+        lambda f, _: repacked(f, TARBALL, of_tarball(), [(X86, tarfile.SYMTYPE, "heap.c")]), "no regular file"),
+    "another library in a wheel": (
+        lambda f, _: (pack_wheel(os.path.join(f, WHEEL), {"krbrelay/libkrbrelay.so.1": b"evil"}), stated(f, False)), WHEEL),
+    "another build.rs": (lambda f, _: repacked(f, PACKED[1], of_rust() | {"build.rs": b"evil"}), "build.rs has other"),
+    "code before Go's": (lambda f, _: repacked(f, PACKED[2], {k: b"call evil\n" + v for k, v in of_go().items()}, (), True),
+                         "isn't the proved code"),
+    "wrong sizes": (lambda f, _: told_of(f, lambda told: [it.update(bytes=1) for it in told["artefacts"].values()]), "other bytes"),
+    "no artefacts": (lambda f, _: (put(f, STATEMENT, statement.bytes_of(f, STATEMENT).replace(b'"artefacts": {', b'"artefacts": null, "x": {')),
+                                   summed(f)), "isn't a statement"),
+}
+
+
+@pytest.mark.parametrize("what", MANIPULATIONS)
+def test_a_manipulation_is_refused_by_name(folder, tmp_path, what):
+    change, word = MANIPULATIONS[what]
+    outside = tmp_path / "outside"
+    outside.mkdir()
+    if word == "no regular file" and "tarball" not in what:
+        with_odd(folder, outside, change)
+    else:
+        change(folder, outside)
+    faults = verifying.by_hashes(folder)
+    assert any(word in it for it in faults), faults[:MOST]
+
+
+def with_odd(folder, outside, change):
+    """What states the folder anew reads it, and stops at what is no regular file."""
+    try:
+        change(folder, outside)
+    except places.Odd:
+        pass
+
+
 # ---- the statement
 
 def test_what_is_stated(made):
@@ -218,11 +429,25 @@ def test_what_is_stated(made):
     assert told["crates"]["krb_peers"]["functions"] == 7
     assert "frames_laws.headline" in told["crates"]["krb_peers"]["clauses"]
     assert told["kit"] == "kit-of-the-test" and len(told["trusted"]) > 3
+    assert len(told["assumed"]) == 2 and len(told["only_tested"]) > 5 and told["made_by"].keys() > {"gcc", "binutils", "debhelper"}
+    in_toto = json.loads(statement.bytes_of(made, FORMS[0]))
+    assert {it["name"]: it["digest"]["sha256"] for it in in_toto["subject"]} == {
+        path: it["sha256"] for path, it in told["artefacts"].items()}
+    assert in_toto["predicate"]["crates"] == told["crates"] and in_toto["_type"] == "https://in-toto.io/Statement/v1"
+    spdx = json.loads(statement.bytes_of(made, FORMS[1]))
+    assert spdx["spdxVersion"] == "SPDX-2.3" and {it["name"] for it in spdx["packages"]} > {"sha1", "std", *told["artefacts"]}
+
+
+def test_clauses_have_the_digest_of_their_text():
+    named = statement.clauses()
+    assert len(named["krb_peers"]) > 50
+    assert all(len(it) == 64 for crate in named.values() for it in crate.values())
 
 
 def test_the_checkout_is_compared(made, monkeypatch):
     told = json.loads(statement.bytes_of(made, STATEMENT))
-    monkeypatch.setattr(statement, "kit", lambda: "kit-of-the-test")
+    of_this_machine(monkeypatch)
+    told["sources"] = {path: it for path, it in told["sources"].items() if not path.endswith("/all.rt")}
     assert list(verifying.of_checkout(told)) == []
     told["sources"][f"{CRATE}/src/lib.rt"] = "0" * 64
     told["commit"] = "another"
@@ -231,27 +456,98 @@ def test_the_checkout_is_compared(made, monkeypatch):
     assert len(faults) == 3 and faults[0] == f"the checkout: {CRATE}/src/lib.rt has other bytes than is stated"
 
 
-def test_what_comes_out_otherwise_is_told(folder, monkeypatch, tmp_path):
-    """It is made again of new assembly: what was kept of it is removed first."""
+@pytest.fixture
+def again(made, monkeypatch, tmp_path):
+    """An honest machine makes it again: of new assembly, since what was kept of it is removed first."""
     kept, forgotten = tmp_path / "dist", []
     monkeypatch.setattr(verifying.assembly, "forget", forgotten.append)
     kept.mkdir()
     tool = scripts.load("c/dist")
     tool.OUT = str(kept)
     monkeypatch.setattr(verifying.scripts, "load", lambda name: tool)
-    monkeypatch.setattr(verifying.making, "make", lambda place: shutil.copytree(made_of(folder), place))
-    assert list(verifying.made_again(str(folder))) == [] and not kept.exists()
-    assert forgotten == ["krb_c", "krbrelay"]
-    flip(str(folder), WHEEL, 30)
-    assert list(verifying.made_again(str(folder))) == [f"{WHEEL} comes out with other bytes"]
+    left_out = shutil.ignore_patterns(STATEMENT, *FORMS, statement.SUMS)
+    monkeypatch.setattr(verifying.making, "make", lambda place: shutil.copytree(made, place, ignore=left_out))
+    monkeypatch.setattr(verifying.ci, "run", lambda *_: True)
+    monkeypatch.setattr(verifying.ci, "verdict_of", VERDICTS.get)
+    monkeypatch.setattr(verifying, "of_checkout", lambda told: [] if told["commit"] == HEAD else ["another commit"])
+    of_this_machine(monkeypatch)
+    yield kept
+    assert not kept.exists() and set(forgotten) == {"krb_c", "krbrelay"}
 
 
-def made_of(folder):
-    """A copy of a folder's artefacts as they were first."""
-    copy = f"{folder}.made"
-    if not os.path.exists(copy):
-        shutil.copytree(folder, copy, ignore=shutil.ignore_patterns("*.proof.json", statement.SUMS))
-    return copy
+def of_crate(**rows):
+    return lambda told: told["crates"][CRATE].update(**rows)
+
+
+STATEMENTS = {
+    "functions of a crate are more": of_crate(functions=99),
+    "a crate less": lambda told: told["crates"].pop(CRATE),
+    "no crate at all": lambda told: told["crates"].clear(),
+    "clauses made up": lambda told: told["crates"][CRATE]["clauses"].update(none="0" * 64),
+    "another clause's text": lambda told: told["crates"][CRATE]["clauses"].update({"lane.none": "0" * 64}),
+    "clauses taken away": lambda told: [it.update(clauses={}) for it in told["crates"].values()],
+    "a crate stands on nothing": lambda told: told["crates"]["krb_peers"].update(stands_on=[]),
+    "nothing is trusted": lambda told: told["trusted"].clear(),
+    "another trusted list": lambda told: told.update(trusted=["Nothing: all of it is proved, also against timing."]),
+    "other compilers": lambda told: told["made_by"].update(gcc="gcc 1.0"),
+    "sizes are wrong": lambda told: [it.update(bytes=1) for it in told["artefacts"].values()]}
+
+
+@pytest.mark.parametrize("change", STATEMENTS)
+def test_the_whole_statement_is_made_again(folder, again, change):
+    """Each of these statements, with all digests that follow, is refused by the kit, also where the hashes are content."""
+    told = json.loads(statement.bytes_of(folder, STATEMENT))
+    assert verifying.with_kit(folder, False) == []
+    STATEMENTS[change](told)
+    restated(folder, told)
+    assert verifying.with_kit(folder, False)
+
+
+@pytest.mark.parametrize("path, data", [(f"python/{NAME}.post1-py3-none-manylinux_2_25_x86_64.whl", None),
+                                        (f"debian/krbrelay-tools_{VERSION}-1_amd64.deb", b"more")])
+def test_an_artefact_that_is_not_made(folder, again, path, data):
+    put(folder, path, data or statement.bytes_of(folder, WHEEL))
+    stated(folder)
+    assert f"{path} isn't made" in verifying.with_kit(folder, False)
+    assert any(path in it and "has this name" in it for it in verifying.by_hashes(folder))
+
+
+def test_another_commit_is_no_remake(folder, monkeypatch):
+    told = json.loads(statement.bytes_of(folder, STATEMENT))
+    of_this_machine(monkeypatch)
+    restated(folder, told | {"commit": "0" * 40})
+    assert any("names " + "0" * 40 in it for it in verifying.with_kit(folder, False))
+
+
+def test_what_comes_out_otherwise_is_told(folder, again):
+    flip(folder, WHEEL, 30)
+    assert f"{WHEEL} comes out with other bytes" in verifying.with_kit(folder, False)
+
+
+# ---- signed
+
+def test_a_signature(folder, tmp_path):
+    """Whoever changes a folder and all that is stated can't sign it."""
+    for name in ("ours", "theirs"):
+        subprocess.run(["ssh-keygen", "-q", "-t", "ed25519", "-N", "", "-f", tmp_path / name], check=True)
+    signers = tmp_path / "signers"
+    signers.write_text("krbrelay@example.org " + (tmp_path / "ours.pub").read_text())
+    assert any("there is no" in it for it in verifying.by_hashes(folder, signers))
+    attested.sign(folder, VERSION, tmp_path / "ours")
+    assert verifying.by_hashes(folder, signers) == verifying.by_hashes(folder) == []
+    put(folder, "README.md", b"another")
+    stated(folder)
+    assert verifying.by_hashes(folder) == []
+    assert any("is of none of the signers" in it for it in verifying.by_hashes(folder, signers))
+    attested.sign(folder, VERSION, tmp_path / "theirs")
+    assert any("is of none of the signers" in it for it in verifying.by_hashes(folder, signers))
+
+
+def test_a_release_is_of_a_commit(monkeypatch):
+    tool = scripts.load("release")
+    monkeypatch.setattr(statement, "commit", lambda: HEAD + " and changes")
+    with pytest.raises(SystemExit, match="a release is of a commit"):
+        tool.make("nowhere")
 
 
 # ---- what the prover says
@@ -284,14 +580,13 @@ def test_a_verdict_is_of_its_sources(tmp_path, monkeypatch):
     assert ci.verdict_of(CRATE) is None
 
 
-def test_another_verdict_is_reported(made, monkeypatch):
-    told = json.loads(statement.bytes_of(made, STATEMENT))
-    monkeypatch.setattr(ci, "verdict_of", lambda crate: ci.Verdict(7, 1))
-    assert list(verifying.of_proofs(told)) == []
+def test_each_crate_is_proved_here(monkeypatch):
+    monkeypatch.setattr(ci, "verdict_of", VERDICTS.get)
+    assert verifying.proved_here() == (VERDICTS, [])
     monkeypatch.setattr(ci, "verdict_of", lambda crate: ci.Verdict(6, 1) if crate == CRATE else None)
     monkeypatch.setattr(ci, "prove_alone", lambda crate: None if crate == "krb_tlv" else ci.Verdict(7, 1))
-    faults = list(verifying.of_proofs(told))
-    assert len(faults) == 2 and faults[0].startswith(f"{CRATE}: ") and faults[1] == "krb_tlv isn't proved"
+    found, faults = verifying.proved_here()
+    assert faults == ["krb_tlv isn't proved"] and found[CRATE] == ci.Verdict(6, 1)
 
 
 def test_a_crate_is_proved_over_the_kits_and_our_libraries(monkeypatch):

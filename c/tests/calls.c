@@ -231,6 +231,8 @@ static void is_not_sealed(enum krbrelay_answer expected)
     struct krbrelay_peer p = KRBRELAY_INIT;
     size_t size = 99;
     uint64_t next = 0, number = 0;
+    struct krbrelay_unsealed all[3] = { { text, 3, { 0 }, { 0 } }, { text, 3, { 0 }, { 0 } }, { text, 3, { 0 }, { 0 } } };
+    size_t sizes[KRBRELAY_MOST_MESSAGES] = { 0 };
     CHECK(peer_of(&p, 17, keys[0], KRBRELAY_PRIV, 1) == KRBRELAY_OK);
     frame[0] = 0xee;
     CHECK(seal_now(&s, sizeof frame, &size) == expected);
@@ -240,7 +242,11 @@ static void is_not_sealed(enum krbrelay_answer expected)
     drawn = 0;
     CHECK(krbrelay_peer_seal_now(&p, (const uint8_t *)"Dhi", 3, frame, sizeof frame, &size)
           == expected);
-    CHECK(size == 99 && frame[0] == 0xee);
+    drawn = 0;
+    CHECK(krbrelay_sealer_seal_many_now(&s, all, 3, frame, sizeof frame, sizes, &size) == expected);
+    drawn = 0;
+    CHECK(krbrelay_peer_seal_many_now(&p, all, 3, frame, sizeof frame, sizes, &size) == expected);
+    CHECK(size == 99 && frame[0] == 0xee && sizes[0] == 0);
     CHECK(krbrelay_peer_state(&p, &next, &number) == KRBRELAY_OK && next == 7);
     krbrelay_peer_free(&p);
     CHECK(krbrelay_sealer_next(&s, &next) == KRBRELAY_OK && next == 7);
@@ -283,6 +289,37 @@ static void answers_of_sealing(void)
     krbrelay_sealer_wipe(&s);
     CHECK(seal_now(&s, sizeof frame, &size) == KRBRELAY_WIPED && size == 99);
     krbrelay_sealer_free(&s);
+}
+
+/* Several messages now: each opens at its number and is under a confounder of its own, and over 64 are refused
+ * before the system is asked. */
+static void several_now(void)
+{
+    static uint8_t frames[65 * 500];
+    struct krbrelay_sealer s = sealer_at_7(18, KRBRELAY_PRIV);
+    struct krbrelay_expect expect = expect_of(KRBRELAY_PRIV);
+    struct krbrelay_opener o = KRBRELAY_INIT;
+    struct krbrelay_unsealed all[65];
+    struct krbrelay_moment now = KRBRELAY_INIT;
+    size_t sizes[KRBRELAY_MOST_MESSAGES], failed = 99, at = 0, size = 0;
+    for (size_t i = 0; i < 65; i++)
+        all[i] = (struct krbrelay_unsealed){ text, 3, { 1, 2, 0 }, { 0 } };
+    memcpy(text, "Dhi", 3);
+    is_real = 1;
+    CHECK(krbrelay_opener_new(&o, 18, keys[1], 32, &expect) == KRBRELAY_OK);
+    CHECK(krbrelay_sealer_seal_many_now(&s, all, 65, frames, sizeof frames, sizes, &failed) == KRBRELAY_ARGUMENT);
+    CHECK(krbrelay_sealer_seal_many_now(&s, all, 9, frames, 9, sizes, &failed) == KRBRELAY_ROOM && failed == 99);
+    CHECK(krbrelay_sealer_seal_many_now(&s, all, 64, frames, sizeof frames, sizes, &failed) == KRBRELAY_OK);
+    CHECK(krbrelay_now(&now) == KRBRELAY_OK);
+    for (size_t i = 0; i < 64; at += sizes[i], i++) {
+        uint8_t opened[500];
+        CHECK(krbrelay_opener_unseal(&o, frames + at, sizes[i], 7 + i, &now, opened, sizeof opened, &size) == KRBRELAY_OK);
+        CHECK(size == 3 && memcmp(opened, "Dhi", 3) == 0);
+        CHECK(i == 0 || memcmp(frames + at + sizes[i] - 60, frames + at - 60, 60) != 0);
+    }
+    krbrelay_opener_free(&o);
+    krbrelay_sealer_free(&s);
+    is_real = 0;
 }
 
 /* A receiver takes what is sealed as a record, by the system's own clock and randomness. */
@@ -465,6 +502,7 @@ int main(int count, char **words)
     RUN(draws_that_go_on());
     RUN(faults_of_the_system());
     RUN(answers_of_sealing());
+    RUN(several_now());
     RUN(records());
     RUN(confounders_differ());
     RUN(addresses());

@@ -86,3 +86,44 @@ enum krbrelay_answer krbrelay_peer_seal_now(struct krbrelay_peer *handle, const 
     explicit_bzero(&fresh, sizeof fresh);
     return answer;
 }
+
+/* What several messages are sealed from: their user data, the present moment, and drawn confounders. */
+static enum krbrelay_answer read_many(struct krbrelay_unsealed all[KRBRELAY_MOST_MESSAGES],
+                                      const struct krbrelay_unsealed *messages, size_t count)
+{
+    struct krbrelay_moment now;
+    enum krbrelay_answer answer = count <= KRBRELAY_MOST_MESSAGES ? krbrelay_now(&now) : KRBRELAY_ARGUMENT;
+    for (size_t i = 0; answer == KRBRELAY_OK && i < count; i++) {
+        all[i].user_data = messages[i].user_data;
+        all[i].user_data_len = messages[i].user_data_len;
+        all[i].at = now;
+        answer = draw(all[i].confounder, sizeof all[i].confounder);
+    }
+    return answer;
+}
+
+enum krbrelay_answer krbrelay_sealer_seal_many_now(struct krbrelay_sealer *handle,
+                                                   const struct krbrelay_unsealed *messages, size_t count,
+                                                   uint8_t *frames, size_t room,
+                                                   size_t sizes[KRBRELAY_MOST_MESSAGES], size_t *failed)
+{
+    struct krbrelay_unsealed all[KRBRELAY_MOST_MESSAGES];
+    enum krbrelay_answer answer = read_many(all, messages, count);
+    if (answer == KRBRELAY_OK)
+        answer = krbrelay_sealer_seal_many(handle, all, count, frames, room, sizes, failed);
+    explicit_bzero(all, sizeof all);
+    return answer;
+}
+
+enum krbrelay_answer krbrelay_peer_seal_many_now(struct krbrelay_peer *handle,
+                                                 const struct krbrelay_unsealed *messages, size_t count,
+                                                 uint8_t *frames, size_t room,
+                                                 size_t sizes[KRBRELAY_MOST_MESSAGES], size_t *failed)
+{
+    struct krbrelay_unsealed all[KRBRELAY_MOST_MESSAGES];
+    enum krbrelay_answer answer = read_many(all, messages, count);
+    if (answer == KRBRELAY_OK)
+        answer = krbrelay_peer_seal_many(handle, all, count, frames, room, sizes, failed);
+    explicit_bzero(all, sizeof all);
+    return answer;
+}

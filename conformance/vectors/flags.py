@@ -86,6 +86,8 @@ FRESHNESS = {
                                    "present", "RFC4120 3.4.2", "RFC4120 3.5.2"),
     "TimeOrNumberNeeded": flag("REPLAY", "The receiver is told to refuse a message that tells neither a time nor a number",
                                "RFC4120 3.4.2", "RFC4120 3.5.2"),
+    "NeitherAtNumber0": flag("REPLAY", "The same where the number 0 is demanded, for which no number may count: it isn't told",
+                             "RFC4120 3.4.2", "RFC4120 3.5.2", "RFC4120 5.1.2"),
     "Replayed": flag("REPLAY", "Messages repeated, left out or out of order", "RFC4120 5.5.1"),
     "StateAfterForgery": flag("DENIAL_OF_SERVICE", "A forged message is refused, and the right ones after it are to be taken"),
     "MixedStream": flag("REPLAY", "Forgeries, repeats and gaps between the messages of a session"),

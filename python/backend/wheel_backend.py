@@ -84,6 +84,14 @@ def shared_objects(folder):
                 yield f"{PACKAGE}/{name}", file.read()
 
 
+def notices():
+    """The licences of what is compiled into the library, by their names in the wheel."""
+    folder = os.path.join(os.path.dirname(license_path()), "licences")
+    for name in sorted(os.listdir(folder)) if os.path.isdir(folder) else ():
+        with open(os.path.join(folder, name), "rb") as file:
+            yield f"{PACKAGE}-{project()['version']}.dist-info/licences/{name}", file.read()
+
+
 def recorded(name, content):
     """A line of RECORD."""
     digest = base64.urlsafe_b64encode(hashlib.sha256(content).digest()).rstrip(b"=").decode()
@@ -112,7 +120,7 @@ def build_wheel(wheel_directory, config_settings=None, metadata_directory=None):
     given = config_settings or {}
     if "library" not in given:
         return write_wheel(wheel_directory, dict(sources()))
-    files = dict([*sources(), *shared_objects(given["library"])])
+    files = dict([*sources(), *shared_objects(given["library"]), *notices()])
     return write_wheel(wheel_directory, files, given["platform"])
 
 

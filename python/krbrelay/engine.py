@@ -8,13 +8,15 @@ the only one that repeats, and a receipt is the only word that deletes.
     sending.sealed(3)                           # three frames are stored
     command = sending.serve(room=8, now=now)    # Publish(number=0, count=3)
 
-Each call is proved (krb_engine); docs/ENGINE.md has the events and the commands.
+Each call is proved (krb_engine); docs/ENGINE.md has the events and the commands. Threads may share
+a value of this module: its calls come one after another, and one that finds its own thread inside
+is a RuntimeError. None of them can be copied.
 """
 from __future__ import annotations
 
 import enum
 import weakref
-from ctypes import Structure, byref, c_uint8, c_uint32, c_uint64
+from ctypes import byref, c_uint8, c_uint32, c_uint64
 from dataclasses import dataclass
 from typing import Any, Callable, NamedTuple, Optional, Tuple, Union
 
@@ -22,7 +24,8 @@ from krbrelay.errors import check
 from krbrelay.library import (
     HISTORY_SIZE, CommandStruct, FlowStruct, HandleStruct, HeadStruct, OpeningStruct, PauseStruct,
     ReadingStruct, ReceiptStruct, ReceivingStruct, RowStruct, SeenStruct, SendingStruct, library)
-from krbrelay.values import Bytes, bytes_of, ranged
+from krbrelay.turns import Turns, called, in_turn
+from krbrelay.values import Bytes, bytes_of, flag, number_or_0, ranged
 
 NEVER = 2**64 - 1
 """The time of a Wake that no pause ends."""
@@ -193,49 +196,56 @@ def _digest(digest: Bytes) -> Any:
     return (c_uint8 * HISTORY_SIZE).from_buffer_copy(found)
 
 
-def _is_same(one: Structure, other: object) -> bool:
-    return type(one) is type(other) and bytes(one) == bytes(other)  # type: ignore[call-overload]
+def _is_same(one: Union[Sending, Receiving], other: Union[Sending, Receiving]) -> bool:
+    return bool(one._turn(bytes, one._struct) == other._turn(bytes, other._struct))
 
 
 # ---- pauses, and whose turn it is
 
-class Pause:
+class Pause(Turns):
     """When something is tried again: a pause that doubles up to a cap. ValueError, TypeError."""
 
     def __init__(self, length: int, now: int) -> None:
+        super().__init__()
         self._struct = PauseStruct()
-        library().krbrelay_pause_begin(byref(self._struct), _number("the length", length),
-                                       _number("now", now))
+        called(library().krbrelay_pause_begin, byref(self._struct), _number("the length", length),
+               _number("now", now))
 
+    @in_turn
     def is_over(self, now: int) -> bool:
         return bool(library().krbrelay_pause_is_over(byref(self._struct), _number("now", now)))
 
     @property
+    @in_turn
     def end(self) -> int:
         """When it is over, and NEVER if that is sooner."""
         found: int = library().krbrelay_pause_end(byref(self._struct))
         return found
 
+    @in_turn
     def grow(self, cap: int, now: int) -> None:
         """The next pause begins: twice as long, up to the cap."""
         library().krbrelay_pause_grow(byref(self._struct), _number("the cap", cap),
                                       _number("now", now))
 
 
-class Queue:
+class Queue(Turns):
     """Sessions that have something to do, each once, first in and first out. A session is its place
-    in the caller's table, below 2**32. Its calls are one thread's."""
+    in the caller's table, below 2**32."""
 
     def __init__(self) -> None:
+        super().__init__()
         self._library, self._struct = library(), HandleStruct()
         weakref.finalize(self, _free, self._library.krbrelay_queue_free, self._struct)
 
+    @in_turn
     def ready(self, session: int) -> None:
         """The session has something to do: it waits last, or where it waits already. ValueError,
         TypeError, MemoryError."""
         check(self._library.krbrelay_queue_ready(
             byref(self._struct), ranged("the session", session, 0, 2**32 - 1)))
 
+    @in_turn
     def serve(self) -> Optional[int]:
         """The session that is served next, which waits no longer."""
         session = c_uint32()
@@ -243,6 +253,7 @@ class Queue:
             return session.value
         return None
 
+    @in_turn
     def __len__(self) -> int:
         """How many sessions wait."""
         found: int = self._library.krbrelay_queue_len(byref(self._struct))
@@ -255,7 +266,7 @@ def _free(free: Callable[..., Any], struct: HandleStruct) -> None:
 
 # ---- a sender
 
-class Sending:
+class Sending(Turns):
     """One session's end at a sender: how far its frames are carried, below which number they took
     effect, and what is to be done. The caller has the frames, in an outbox.
 
@@ -264,20 +275,23 @@ class Sending:
     """
 
     def __init__(self, stored: Stored, now: int) -> None:
+        super().__init__()
         self._library, self._struct = library(), SendingStruct()
         self._at = byref(self._struct)
         if not stored.done <= stored.carried <= stored.next:
             raise ValueError(f"{stored}: done is at most carried, and that at most next")
-        check(self._library.krbrelay_sending_load(
-            self._at, *(_number(name, getattr(stored, name)) for name in
-                        ("next", "carried", "at", "done", "list")), _number("now", now)))
+        check(called(self._library.krbrelay_sending_load, self._at,
+                     *(_number(name, getattr(stored, name)) for name in
+                       ("next", "carried", "at", "done", "list")), _number("now", now)))
 
+    @in_turn
     def sealed(self, count: int) -> None:
         """So many frames more are sealed and stored."""
         if count > NEVER - self._struct.progress.next:
             raise ValueError(f"{count} frames more have no numbers")
         check(self._library.krbrelay_sending_sealed(self._at, _number("the count", count)))
 
+    @in_turn
     def confirmed(self, number: int, offset: int, now: int) -> bool:
         """A copy of the frame of this number stands at this offset of the list: whether it counts.
         Nothing is deleted."""
@@ -287,6 +301,7 @@ class Sending:
             _number("now", now), byref(counts)))
         return bool(counts.value)
 
+    @in_turn
     def listed(self, list_now: int) -> bool:
         """The shard has this list: whether it had another one. Then all that isn't done leaves
         again."""
@@ -295,10 +310,12 @@ class Sending:
             self._at, _number("the list", list_now), byref(other)))
         return bool(other.value)
 
+    @in_turn
     def reconnected(self) -> None:
         """The connection is a new one: what wasn't confirmed leaves again."""
         check(self._library.krbrelay_sending_reconnected(self._at))
 
+    @in_turn
     def receipt(self, receipt: Receipt, own: Bytes, now: int) -> Heard:
         """A receiver says what took effect, and what it asks for. `own` is the digest of this
         sender's own frames below the receipt's number. If that is above `next`, or isn't above
@@ -310,6 +327,7 @@ class Sending:
             self._at, byref(struct), _digest(own), _number("now", now), byref(heard)))
         return Heard(heard.value)
 
+    @in_turn
     def serve(self, room: int, now: int) -> Command:
         """It is the session's turn, and the shard has room for so many frames more: what is to be
         done."""
@@ -330,37 +348,44 @@ class Sending:
                 Stands(stands.value) if stands.value else None)
 
     @property
+    @in_turn
     def under_way(self) -> int:
         """How many of its frames are under way."""
         return self._state()[0]
 
     @property
+    @in_turn
     def sealing_room(self) -> int:
         """How many frames more may be sealed."""
         return self._state()[1]
 
     @property
+    @in_turn
     def is_settled(self) -> bool:
         """Whether all is done, or it is stopped."""
         return self._state()[2]
 
     @property
+    @in_turn
     def stands(self) -> Optional[Stands]:
         """Why it stands, if it does."""
         return self._state()[3]
 
     @property
+    @in_turn
     def done(self) -> int:
         """The frames below this number took effect, and may be deleted."""
         found: int = self._struct.done
         return found
 
     @property
+    @in_turn
     def ended(self) -> Optional[Ended]:
         """Why it is stopped, if it is."""
         return Ended(self._struct.ended) if self._struct.ended else None
 
     @property
+    @in_turn
     def stored(self) -> Stored:
         """What to store of it."""
         progress = self._struct.progress
@@ -368,59 +393,68 @@ class Sending:
                       self._struct.list)
 
     def __eq__(self, other: object) -> bool:
-        return isinstance(other, Sending) and _is_same(self._struct, other._struct)
+        return isinstance(other, Sending) and _is_same(self, other)
 
 
-class Flow:
+class Flow(Turns):
     """A shard at a sender: the list that it has now, or None while it doesn't answer, and how many
     frames of its sessions are under way."""
 
     def __init__(self) -> None:
+        super().__init__()
         self._struct = FlowStruct()
 
     @property
+    @in_turn
     def list(self) -> Optional[int]:
         return self._struct.list if self._struct.has_list else None
 
     @list.setter
+    @in_turn
     def list(self, list_now: Optional[int]) -> None:
-        self._struct.list = _number("the list", list_now or 0)
+        self._struct.list = _number("the list", number_or_0(list_now))
         self._struct.has_list = list_now is not None
 
     @property
+    @in_turn
     def under_way(self) -> int:
         found: int = self._struct.under_way
         return found
 
     @property
+    @in_turn
     def room(self) -> int:
         """How many frames more may be under way: none while the shard has no list."""
         found = c_uint64()
         check(library().krbrelay_flow_room(byref(self._struct), byref(found)))
         return found.value
 
+    @in_turn
     def moved(self, before: int, after: int) -> None:
         """One of its sessions had so many frames under way, and has so many now."""
-        if before > self.under_way:
-            raise ValueError(f"{before} were under way: the shard has {self.under_way}")
+        under_way = self._struct.under_way
+        if before > under_way:
+            raise ValueError(f"{before} were under way: the shard has {under_way}")
         check(library().krbrelay_flow_moved(byref(self._struct), _number("before", before),
                                             _number("after", after)))
 
 
 # ---- a receiver
 
-class Receiving:
+class Receiving(Turns):
     """One session's end at a receiver: what is demanded, as stored and as the transaction under way
     would store it, and which receipt is owed. It begins with the store's row. ValueError,
     TypeError."""
 
     def __init__(self, row: Row, now: int) -> None:
+        super().__init__()
         self._library, self._struct = library(), ReceivingStruct()
         self._at = byref(self._struct)
         struct = RowStruct(_number("the number", row.number), _digest(row.history),
-                           bool(row.closed))
-        self._library.krbrelay_receiving_load(self._at, byref(struct), _number("now", now))
+                           flag("closed", row.closed))
+        called(self._library.krbrelay_receiving_load, self._at, byref(struct), _number("now", now))
 
+    @in_turn
     def take(self, frame: Bytes, *, accepted: bool, is_close: bool = False,
              opened: Optional[int] = None) -> Outcome:
         """A frame under the session's name is taken: what for. If it is accepted, its texts take
@@ -430,21 +464,24 @@ class Receiving:
         content = bytes_of("the frame", frame)
         if self._struct.drafted.number == NEVER:
             raise ValueError(f"the number {NEVER} has none after it")
-        seen = SeenStruct(_number("opened", opened or 0), opened is not None, bool(accepted),
-                          bool(is_close))
+        seen = SeenStruct(_number("opened", number_or_0(opened)), opened is not None,
+                          flag("accepted", accepted), flag("is_close", is_close))
         outcome = c_uint32()
         check(self._library.krbrelay_receiving_take(
             self._at, content, len(content), byref(seen), byref(outcome)))
         return Outcome(outcome.value)
 
+    @in_turn
     def stored(self) -> None:
         """The transaction took effect."""
         check(self._library.krbrelay_receiving_stored(self._at))
 
+    @in_turn
     def dropped(self) -> None:
         """It had no effect, or nobody knows: what it took is read again."""
         check(self._library.krbrelay_receiving_dropped(self._at))
 
+    @in_turn
     def receipt(self, now: int) -> Optional[Receipt]:
         """The receipt that leaves now. None leaves while a transaction is under way, or soon after
         another one."""
@@ -456,32 +493,36 @@ class Receiving:
         return Receipt(struct.number, bytes(struct.history), Asks(struct.asks))
 
     @property
+    @in_turn
     def row(self) -> Row:
         """What is stored: a transaction compares it."""
         return _row_of(self._struct.stored)
 
     @property
+    @in_turn
     def drafted(self) -> Row:
         """What the transaction under way stores."""
         return _row_of(self._struct.drafted)
 
     def __eq__(self, other: object) -> bool:
-        return isinstance(other, Receiving) and _is_same(self._struct, other._struct)
+        return isinstance(other, Receiving) and _is_same(self, other)
 
 
 def _row_of(struct: RowStruct) -> Row:
     return Row(struct.number, bytes(struct.history), bool(struct.closed))
 
 
-class Reading:
+class Reading(Turns):
     """A shard at a receiver: one transaction after another. It begins where the store says.
     ValueError, TypeError."""
 
     def __init__(self, stored: Spot) -> None:
+        super().__init__()
         self._struct = ReadingStruct()
-        library().krbrelay_reading_load(byref(self._struct), _number("the list", stored.list),
-                                        _number("the offset", stored.offset))
+        called(library().krbrelay_reading_load, byref(self._struct),
+               _number("the list", stored.list), _number("the offset", stored.offset))
 
+    @in_turn
     def frames(self, list_now: int, last: int, count: int) -> Read:
         """So many frames came after `read`, from this list, which has so many items: what they are
         for."""
@@ -493,16 +534,19 @@ class Reading:
             _number("the count", count), byref(read)))
         return Read(read.value)
 
+    @in_turn
     def stored(self) -> None:
         """The transaction took effect. If it didn't, or nobody knows, begin with what is stored."""
         check(library().krbrelay_reading_stored(byref(self._struct)))
 
     @property
+    @in_turn
     def spot(self) -> Spot:
         """What is stored: a transaction compares it."""
         return Spot(self._struct.stored.list, self._struct.stored.offset)
 
     @property
+    @in_turn
     def read(self) -> Spot:
         """Up to where it is read: the transaction under way stores it."""
         return Spot(self._struct.read.list, self._struct.read.offset)
@@ -515,9 +559,9 @@ def judge(head: Optional[Head], opening: Opening) -> Judged:
     if head is not None:
         last = HeadStruct(ranged("the turn", head.turn, 1, NEVER),
                           _number("the number", head.number), _digest(head.history),
-                          bool(head.closed))
+                          flag("closed", head.closed))
     says = OpeningStruct(_number("the turn", opening.turn), _number("the number", opening.number),
                          _digest(opening.history))
     judged = c_uint32()
-    check(library().krbrelay_judge(byref(last), byref(says), byref(judged)))
+    check(called(library().krbrelay_judge, byref(last), byref(says), byref(judged)))
     return Judged(judged.value)

@@ -6,6 +6,7 @@ from ctypes import c_size_t, c_uint8
 from typing import Callable, Optional
 
 from krbrelay.library import TEXT_SIZE, library
+from krbrelay.turns import called
 
 
 class Code(enum.IntEnum):
@@ -107,14 +108,15 @@ def answer_text(answer: int) -> str:
 
 def _text(call: Callable[..., int], answer: int) -> str:
     buffer, size = (c_uint8 * TEXT_SIZE)(), c_size_t()
-    if not 0 <= answer < 1 << 32 or call(answer, buffer, TEXT_SIZE, size):
+    if not 0 <= answer < 1 << 32 or called(call, answer, buffer, TEXT_SIZE, size) != 0:
         raise ValueError(f"no answer of the library has the number {answer}")
     return bytes(buffer[:size.value]).decode("ascii")
 
 
 def exception_of(answer: int, before: str = "") -> Exception:
     """The exception for an answer other than 0, whose text begins with what is before it."""
-    text, found = before + answer_text(answer), library().krbrelay_class_of(answer)
+    text = before + answer_text(answer)
+    found = called(library().krbrelay_class_of, answer)
     if found == _Class.MEMORY:
         return MemoryError(text)
     if found == _Class.CALLER and answer != _ROOM:

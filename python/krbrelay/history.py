@@ -6,10 +6,11 @@ from ctypes import c_uint8
 
 from krbrelay.errors import check
 from krbrelay.library import HISTORY_SIZE, library
+from krbrelay.turns import Turns, in_turn
 from krbrelay.values import Bytes, bytes_of
 
 
-class History:
+class History(Turns):
     """One digest of the frames of a session that took effect, in their order.
 
     Numbers don't tell two senders apart: one whose store was restored or copied seals other
@@ -21,11 +22,13 @@ class History:
 
     def __init__(self, digest: bytes = bytes(HISTORY_SIZE)) -> None:
         """Goes on from a digest that was stored; zeros are no frames."""
+        super().__init__()
         stored = bytes_of("the digest", digest)
         if len(stored) != HISTORY_SIZE:
             raise ValueError(f"the digest has {len(stored)} bytes: it has to have {HISTORY_SIZE}")
         self._bytes = (c_uint8 * HISTORY_SIZE).from_buffer_copy(stored)
 
+    @in_turn
     def add(self, frame: Bytes) -> None:
         """Adds a frame that took effect, or one that was sealed.
 
@@ -35,6 +38,7 @@ class History:
         check(library().krbrelay_history_add(self._bytes, content, len(content)))
 
     @property
+    @in_turn
     def digest(self) -> bytes:
         """What to store and to compare: 20 bytes, with no secret in them."""
         return bytes(self._bytes)

@@ -3,6 +3,7 @@ from __future__ import annotations
 
 from krbrelay.errors import check
 from krbrelay.library import HeaderStruct, library
+from krbrelay.turns import called
 from krbrelay.values import Bytes, Header, bytes_of, header_of
 
 
@@ -11,5 +12,5 @@ def message_header(frame: Bytes) -> Header:
     can be chosen. Refusal with Code.FIELD_TOOLONG or Code.MALFORMED, TypeError, MemoryError,
     LibraryError."""
     content, header = bytes_of("the message", frame), HeaderStruct()
-    check(library().krbrelay_message_header(content, len(content), header))
+    check(called(library().krbrelay_message_header, content, len(content), header))
     return header_of(header)

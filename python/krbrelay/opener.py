@@ -6,18 +6,18 @@ from typing import Optional
 from krbrelay.handle import Handle, Key
 from krbrelay.library import CarriedStruct, ExpectStruct
 from krbrelay.values import (
-    Address, Body, Bytes, Demand, Mode, Moment, body_of, bytes_of, demand_struct, moment_struct,
-    optional_struct, ranged)
+    Address, Body, Bytes, Demand, Mode, Moment, body_of, bytes_of, demand_struct, flag,
+    moment_struct, one_of, optional_struct, ranged)
 
 
 def expect_struct(mode: Mode, sender: Optional[Address], receiver: Optional[Address],
                   require_receiver: bool, require_time: bool, skew: int) -> ExpectStruct:
     return ExpectStruct(
-        Mode(mode),
+        one_of("the mode", Mode, mode),
         optional_struct("the sender", sender),
         optional_struct("the receiver", receiver),
-        bool(require_receiver),
-        bool(require_time),
+        flag("require_receiver", require_receiver),
+        flag("require_time", require_time),
         ranged("the skew", skew, 0, 2**32 - 1),
     )
 

@@ -1,7 +1,7 @@
 """Peers: one end of a session of user data, in both directions."""
 from __future__ import annotations
 
-from ctypes import c_uint8, c_uint64
+from ctypes import byref, c_size_t, c_uint8, c_uint64
 from dataclasses import replace
 from typing import NamedTuple, Optional
 
@@ -11,9 +11,23 @@ from krbrelay.library import PEER_STATE_SIZE, CarriedStruct
 from krbrelay.sealer import SealingHandle, session_struct
 from krbrelay.values import (
     LAST_NUMBER, Address, Body, Bytes, Demand, How, Mode, Moment, body_of, bytes_of, demand_struct,
-    moment_struct, ranged)
+    moment_struct, number_or_0, one_of, ranged)
 
+NOT_MADE = 2**64 - 1            # the size of nothing
 STATE_HEAD = b"krs\1"           # what an export begins with, before two numbers of eight bytes
+
+
+class KeptBody:
+    """Room for what one message carries."""
+
+    def __init__(self, room: int) -> None:
+        self._buffer, self.size = bytearray(room + 1), c_size_t(NOT_MADE)
+        self.carried, self.at = CarriedStruct(), c_uint8.from_buffer(self._buffer)
+
+    def made(self) -> Optional[Body]:
+        if self.size.value == NOT_MADE:
+            return None
+        return body_of(bytes(memoryview(self._buffer)[:self.size.value]), self.carried)
 
 
 class Numbers(NamedTuple):
@@ -31,9 +45,10 @@ class Peer(SealingHandle):
     `etype` and `key` are those of a Sealer. The messages of this end carry the address of the
     `sender`, this end's, and that of the `receiver` if there is one, and begin at the number
     `first`. Those of the other end have to meet the `demand`, whose number is the first that is
-    expected, at most 2**32, with How.REQUIRED or How.ABSENT_IS_0. One key serves both directions:
-    so the ends need different addresses, and each demands the other's. Where the demand has no
-    skew, a time is demanded that is off by at most `skew` seconds; with neither, no time is.
+    expected, 0 where it is None and at most 2**32, with How.REQUIRED or How.ABSENT_IS_0. One key
+    serves both directions: so the ends need different addresses, and each demands the other's.
+    Where the demand has no skew, a time is demanded that is off by at most `skew` seconds; with
+    neither, no time is.
 
     With `state`, what `export` returned, a peer goes on where another stopped: the demand's number
     is None or 0, and `first` is 0.
@@ -46,7 +61,6 @@ class Peer(SealingHandle):
     def __init__(self, etype: int, key: Key, *, mode: Mode, sender: Address, demand: Demand,
                  first: int = 0, receiver: Optional[Address] = None,
                  state: Optional[Bytes] = None, skew: Optional[int] = 300) -> None:
-        self._draws = Mode(mode) is Mode.PRIV
         demanded = _demand_of(demand, skew, state is not None)
         if state is not None and first:
             raise ValueError(f"first is {first}: it has to be 0 with a state, which has the number")
@@ -70,22 +84,23 @@ class Peer(SealingHandle):
     def open(self, frame: Bytes, at: Optional[Moment] = None) -> Body:
         """What a message of the other end with the expected number carries. The number is one more
         then. `at` is the moment of opening, now if it isn't given. After any exception the peer is
-        as it was.
+        as it was, unless `fetch` has what this would have returned.
 
         A Refusal with Code.BADORDER is of an authentic message that meets all but the number: its
         `number` is the one that the message carries, below the expected one of a repeat.
 
         Refusal, Freed, ValueError, TypeError, MemoryError.
         """
-        content, carried = bytes_of("the message", frame), CarriedStruct()
+        content, moment = bytes_of("the message", frame), moment_struct(at)
+        room = len(content)
+        kept = KeptBody(room)
         try:
-            user_data = self._write("open", len(content), content, len(content), moment_struct(at),
-                                    after=(carried,))
+            return self._made(kept, "open", content, room, moment, kept.at, room,
+                              byref(kept.size), kept.carried)
         except Refusal as refusal:
-            if refusal.code is Code.BADORDER and carried.has_number:
-                refusal.number = carried.number
+            if refusal.code is Code.BADORDER and kept.carried.has_number:
+                refusal.number = kept.carried.number
             raise
-        return body_of(user_data, carried)
 
     @property
     def numbers(self) -> Numbers:
@@ -106,18 +121,15 @@ def _demand_of(demand: Demand, skew: Optional[int], has_state: bool) -> Demand:
     """What a peer demands, or ValueError with the field that can't be, and what it may be."""
     if not isinstance(demand, Demand):
         raise TypeError(f"the demand is {type(demand).__name__}: it has to be a Demand")
-    number = demand.number
-    if How(demand.how_number) is How.IF_PRESENT:
+    number = number_or_0(demand.number)
+    if one_of("how_number", How, demand.how_number) is How.IF_PRESENT:
         raise ValueError("the demand's how_number is How.IF_PRESENT: it has to be How.REQUIRED or"
                          " How.ABSENT_IS_0, since a peer opens each number once")
     if has_state and number:
         raise ValueError(f"the demand's number is {number}: it has to be None with a state, which "
                          "has it")
-    if not has_state and number is None:
-        raise ValueError(f"the demand's number is None: it has to be 0 to {LAST_NUMBER + 1}, the "
-                         "first that is expected of the other end")
     return replace(demand, skew=skew if demand.skew is None else demand.skew,
-                   number=ranged("the demand's number", number or 0, 0, LAST_NUMBER + 1))
+                   number=ranged("the demand's number", number, 0, LAST_NUMBER + 1))
 
 
 def _state_of(state: Bytes) -> object:

@@ -8,7 +8,7 @@ import ipaddress
 import math
 import operator
 import time
-from typing import Iterable, Optional, Tuple, Union
+from typing import Iterable, Optional, Tuple, Type, TypeVar, Union
 
 from krbrelay.library import (
     ADDRESS_LIMIT, AddressStruct, CarriedStruct, DemandStruct, HeaderStruct, MomentStruct)
@@ -16,11 +16,13 @@ from krbrelay.library import (
 Bytes = Union[bytes, bytearray, memoryview]
 Moment = Union[datetime.datetime, int, float]
 """An aware datetime; an int, microseconds since 1970-01-01T00:00:00Z; or a float, seconds since
-then, as time.time() has them. Of the years 1970 to 9999."""
+then, as time.time() has them. Of the years 1970 to 9999. An int is 0 or at least LEAST_MICROS, in
+March 1973: a smaller one is of seconds or milliseconds."""
 
 EPOCH = datetime.datetime(1970, 1, 1, tzinfo=datetime.timezone.utc)
 MICROSECOND = datetime.timedelta(microseconds=1)
 LAST_NUMBER = 2**32 - 1
+LEAST_MICROS = 10**14
 
 
 class Mode(enum.IntEnum):
@@ -56,6 +58,23 @@ def ranged(name: str, number: int, low: int, high: int) -> int:
     return found
 
 
+def flag(name: str, value: bool) -> int:
+    """0 or 1 of a bool, or TypeError: what is empty isn't False."""
+    if value not in (0, 1) or not hasattr(type(value), "__index__"):
+        raise TypeError(f"{name} is {value!r}: it has to be True or False")
+    return int(value)
+
+
+Member = TypeVar("Member", bound=enum.IntEnum)
+
+
+def one_of(name: str, kind: Type[Member], value: int) -> Member:
+    """The member of an enumeration, or ValueError, or TypeError of what is no int."""
+    if not hasattr(type(value), "__index__"):
+        raise TypeError(f"{name} is {type(value).__name__}: it has to be a {kind.__name__}")
+    return kind(value)
+
+
 def bytes_of(name: str, content: Bytes) -> bytes:
     """The bytes of the argument, which stay while a call reads them, or TypeError."""
     if isinstance(content, bytes):
@@ -79,10 +98,14 @@ def micros_of(at: Optional[Moment]) -> int:
             raise ValueError(f"the moment is {at}: it has to be finite")
         return round(at * 1_000_000)
     try:
-        return operator.index(at)
+        micros = operator.index(at)
     except TypeError:
         raise TypeError(f"the moment is {type(at).__name__}: it has to be an aware datetime, "
                         "microseconds as an int, or seconds as a float") from None
+    if 0 < micros < LEAST_MICROS:
+        raise ValueError(f"the moment is {micros}: an int is microseconds, 0 or at least "
+                         f"{LEAST_MICROS}; seconds are a float, as time.time() has them")
+    return micros
 
 
 def moment_struct(at: Optional[Moment]) -> MomentStruct:
@@ -219,28 +242,35 @@ class Demand:
     how_number: How = How.REQUIRED
     needs_time_or_number: bool = False
     """Whether a message that tells neither its time nor its number is refused, as RFC 4120 asks in
-    sections 3.4.2 and 3.5.2."""
+    sections 3.4.2 and 3.5.2. An absent number isn't told, also where it counts as 0, and seconds
+    without microseconds tell a time only under How.ABSENT_IS_0."""
 
 
 def demand_struct(demand: Demand) -> DemandStruct:
     if not isinstance(demand, Demand):
         raise TypeError(f"the demand is {type(demand).__name__}: it has to be a Demand")
     return DemandStruct(
-        how_of(How.REQUIRED, demand.sender),
-        how_of(demand.how_receiver, demand.receiver),
-        how_of(demand.how_time, demand.skew),
-        how_of(demand.how_number, demand.number),
-        ranged("the number", demand.number or 0, 0, 2**64 - 1),
-        ranged("the skew", demand.skew or 0, 0, 2**32 - 1),
+        how_of("how_sender", How.REQUIRED, demand.sender),
+        how_of("how_receiver", demand.how_receiver, demand.receiver),
+        how_of("how_time", demand.how_time, demand.skew),
+        how_of("how_number", demand.how_number, demand.number),
+        ranged("the number", number_or_0(demand.number), 0, 2**64 - 1),
+        ranged("the skew", number_or_0(demand.skew), 0, 2**32 - 1),
         optional_struct("the sender", demand.sender),
         optional_struct("the receiver", demand.receiver),
-        bool(demand.needs_time_or_number),
+        flag("needs_time_or_number", demand.needs_time_or_number),
     )
 
 
-def how_of(how: How, demanded: object) -> int:
+def how_of(name: str, how: How, demanded: object) -> int:
     """How C is asked for a demand: 0 where nothing is demanded."""
-    return 0 if demanded is None else How(how).value
+    found = one_of(name, How, how)
+    return 0 if demanded is None else found.value
+
+
+def number_or_0(number: Optional[int]) -> int:
+    """The number, and 0 for None alone: another value that is false isn't taken for it."""
+    return 0 if number is None else number
 
 
 # ---- records

@@ -139,7 +139,7 @@ class TheHeader(unittest.TestCase):
     # What Python has itself, or has no use for.
     UNUSED = {f"krbrelay_{name}" for name in (
         "opener_unseal_in_place", "now", "sealer_seal_now", "sealer_seal_record_now",
-        "peer_seal_now", "receiver_take", "address_from", "is_refusal", "is_supported",
+        "peer_seal_now", "sealer_seal_many_now", "peer_seal_many_now", "receiver_take", "address_from", "is_refusal", "is_supported",
         "clear_stack", "progress_new", "progress_store", "progress_publish", "progress_confirm",
         "progress_rewind", "strerror")}
 

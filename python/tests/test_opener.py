@@ -217,7 +217,8 @@ class Opening(unittest.TestCase):
                 (number, Demand(**needs), None), (time, Demand(**needs), None),
                 (number + (0xA2,), Demand(**needs), 41),
                 (number + (0xA2,), Demand(skew=1, how_time=How.ABSENT_IS_0, **needs), None),
-                (number + time, Demand(number=0, how_number=How.ABSENT_IS_0, **needs), None),
+                (number + time, Demand(number=0, how_number=How.ABSENT_IS_0, **needs), 41),
+                (number, Demand(number=0, how_number=How.ABSENT_IS_0, **needs), None),
                 (number + time, Demand(number=7, how_number=How.IF_PRESENT, **needs), 41)):
             frame = frame_of(KEYS[0], Mode.SAFE, b"Dhi", 7, left_out=left_out)
             with Opener(17, KEYS[0], mode=Mode.SAFE) as opener:

@@ -3,11 +3,12 @@ import unittest
 from unittest import mock
 
 from support import (
-    CONFOUNDER, KEYS, KINDS, MICROS, OTHER, PAIRS, RECEIVER, SENDER, frame_of, frames, outcome,
-    peer_of, receiver_of, sealed)
+    CONFOUNDER, KEYS, KINDS, MICROS, OTHER, PAIRS, RECEIVER, SENDER, frame_of, frames, opener_of,
+    outcome, peer_of, receiver_of, sealed)
 
 import krbrelay
 from krbrelay import Body, Code, Demand, How, Mode, Numbers, Peer
+from krbrelay.engine import Flow, Receiving, Row
 
 
 def number_of(call, *arguments):
@@ -85,7 +86,7 @@ class Several(unittest.TestCase):
     """Messages that are sealed in one call."""
 
     def test_they_are_of_the_independent_sealer(self):
-        """Each at its own number, and of KRB-PRIV under a confounder that is drawn for it."""
+        """Each at its own number, and under a confounder that is drawn for it."""
         drawn = [bytes([at]) * 16 for at in range(64)]
         for key, mode in KINDS:
             for count in (0, 1, 3, 4, 8, 13, 64):
@@ -97,8 +98,7 @@ class Several(unittest.TestCase):
                     self.assertEqual(peer.seal_many(texts, MICROS),
                                      [sealed(key, mode, *it) for it in zip(bodies, drawn)])
                     self.assertEqual(peer.numbers, Numbers(7 + count, 9))
-                self.assertEqual(urandom.call_args_list,
-                                 [mock.call(16)] * (count if mode is Mode.PRIV else 0))
+                self.assertEqual(urandom.call_args_list, [mock.call(16)] * count)
 
     def test_the_other_end_opens_them(self):
         for key, mode in KINDS:
@@ -197,7 +197,6 @@ class Arguments(unittest.TestCase):
             state = peer.export()
         number, how = "the demand's number is", "the demand's how_number is How.IF_PRESENT"
         for demand, named, words in (
-                (Demand(sender=SENDER), {}, f"{number} None: it has to be 0 to 4294967296"),
                 (Demand(number=2**32 + 1), {}, f"{number} 4294967297: it has to be 0 to"),
                 (Demand(number=7, how_number=How.IF_PRESENT), {}, f"{how}: it has to be"),
                 (Demand(number=8), {"state": state}, f"{number} 8: it has to be None"),
@@ -205,6 +204,41 @@ class Arguments(unittest.TestCase):
                 (Demand(), {"state": b"x" + state[1:]}, "the state is none that Peer.export"),
                 (Demand(), {"state": state[:-1]}, "the state has 19 bytes")):
             self.assertIn(words, self.said(demand, **named))
+
+    def test_defaults(self):
+        """Numbers begin at 0, as in C, Rust and Go."""
+        with Peer(17, KEYS[0], mode=Mode.PRIV, sender=OTHER, demand=Demand(sender=SENDER)) as peer:
+            self.assertEqual(peer.numbers, Numbers(0, 0))
+        with krbrelay.Sealer(17, KEYS[0], mode=Mode.SAFE, sender=SENDER) as sealer, \
+                krbrelay.Receiver(17, KEYS[0], mode=Mode.SAFE, sender=SENDER,
+                                  receiver=RECEIVER) as receiver:
+            self.assertEqual((sealer.next, receiver.state.expected), (0, 0))
+            without = frame_of(KEYS[0], Mode.SAFE, b"Dhi", 0, left_out=(0xA1, 0xA2))
+            self.assertEqual(outcome(receiver.take, without, MICROS), krbrelay.Code.SKEW)
+            with opener_of(KEYS[0], Mode.SAFE) as opener:
+                self.assertEqual(outcome(opener.unseal, without, 0, MICROS), krbrelay.Code.SKEW)
+
+    def test_values_that_are_false_are_no_numbers(self):
+        wrong = ("", b"", 0.0, [], {}, 0j)
+        frame = frame_of(KEYS[0], Mode.PRIV, b"hi", 0)
+        with opener_of(KEYS[0], Mode.PRIV) as opener:
+            for value in wrong:
+                for name in ("number", "skew", "how_number", "how_time", "how_receiver",
+                             "needs_time_or_number"):
+                    demand = Demand(**{name: value})
+                    self.assertRaises(TypeError, opener.open, frame, demand, MICROS)
+                for name in ("require_time", "require_receiver", "skew", "mode"):
+                    with self.assertRaises(TypeError, msg=name):
+                        krbrelay.Opener(17, KEYS[0], **{"mode": Mode.PRIV, name: value})
+                for demand in (Demand(number=value), Demand(how_number=value)):
+                    with self.assertRaises(TypeError):
+                        Peer(17, KEYS[0], mode=Mode.PRIV, sender=OTHER, demand=demand)
+                with self.assertRaises(TypeError):
+                    Receiving(Row(5), 0).take(frame, accepted=False, opened=value)
+                with self.assertRaises(TypeError):
+                    Receiving(Row(5), 0).take(frame, accepted=value)
+                with self.assertRaises(TypeError):
+                    Flow().list = value
 
     def test_no_number_with_a_state(self):
         with peer_of(KEYS[0], Mode.PRIV, 3, 9) as peer:
@@ -214,7 +248,7 @@ class Arguments(unittest.TestCase):
             self.assertEqual(peer.numbers, Numbers(3, 9))
 
     def test_demands(self):
-        for demand in (Demand(), Demand(number=7, how_number=How.IF_PRESENT),
+        for demand in (Demand(number=7, how_number=How.IF_PRESENT),
                        Demand(number=2**32 + 1)):
             with self.assertRaises(ValueError):
                 Peer(17, KEYS[0], mode=Mode.PRIV, sender=OTHER, demand=demand)

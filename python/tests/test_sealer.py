@@ -162,7 +162,7 @@ class Moments(unittest.TestCase):
     def test_seconds_as_a_float(self):
         for seconds, micros in ((0.0, 0), (1.5, 1_500_000), (1_700_000_000.000_005, MICROS),
                                 (4_102_444_800.123_456, 4_102_444_800_123_456)):
-            self.assertEqual(self.sealed_at(seconds), self.sealed_at(micros))
+            self.assertEqual(self.sealed_at(seconds), frame_of(KEYS[0], Mode.SAFE, b"Dhi", at=micros))
         for wrong in (-0.5, 1e300, float("inf"), float("nan"), float(MICROS)):
             with self.assertRaises(ValueError):
                 self.sealed_at(wrong)
@@ -175,6 +175,16 @@ class Moments(unittest.TestCase):
         for at in ("now", b"", (1, 2), 1j):
             with self.assertRaises(TypeError):
                 self.sealed_at(at)
+
+    def test_an_int_of_other_units(self):
+        """time.time_ns() is over the year 9999, and seconds and milliseconds are no microseconds."""
+        for at in (1, int(time.time()), int(time.time() * 1000), time.time_ns(), 10**14 - 1):
+            with self.assertRaises(ValueError):
+                self.sealed_at(at)
+        with self.assertRaisesRegex(ValueError, "an int is microseconds, .*; seconds are a float"):
+            self.sealed_at(int(time.time()))
+        for at in (0, 10**14):
+            self.assertEqual(self.sealed_at(at), frame_of(KEYS[0], Mode.SAFE, b"Dhi", at=at))
 
     def test_now(self):
         before = time.time_ns() // 1000
@@ -200,10 +210,12 @@ class Confounders(unittest.TestCase):
                              frame_of(KEYS[1], Mode.PRIV, b"Dhi", 8))
         self.assertEqual(drawn.call_args_list, [mock.call(16)] * 2)
 
-    def test_none_is_drawn_for_a_safe_message(self):
-        with sealer_of(KEYS[1], Mode.SAFE) as sealer, mock.patch("os.urandom") as drawn:
+    def test_they_are_drawn_whatever_the_mode(self):
+        with sealer_of(KEYS[1], Mode.SAFE) as sealer, \
+                mock.patch("os.urandom", return_value=CONFOUNDER) as drawn:
             self.assertEqual(sealer.seal(b"hi", MICROS), frame_of(KEYS[1], Mode.SAFE, b"hi"))
-        self.assertEqual(drawn.call_args_list, [])
+            sealer.seal_many([b"hi"] * 3, MICROS)
+        self.assertEqual(drawn.call_args_list, [mock.call(16)] * 4)
 
     def test_each_private_message_has_one_while_the_mode_changes(self):
         """Also if another thread sets the mode meanwhile."""

@@ -136,8 +136,10 @@ class WrongArguments(unittest.TestCase):
             self.assert_raises(TypeError, etype=etype)
 
     def test_modes(self):
-        for mode in (0, 19, 22, 2**32 + 20, "SAFE", None):
+        for mode in (0, 19, 22, 2**32 + 20):
             self.assert_raises(ValueError, mode=mode)
+        for mode in ("SAFE", None, 20.0):
+            self.assert_raises(TypeError, mode=mode)
 
     def test_addresses(self):
         for address in ("10.0.0.1", b"\n\0\0\1", (2, b"\n\0\0\1"), 7):

@@ -97,6 +97,14 @@ impl Peer {
         sys::peer_seal_many(&mut self.0, messages)
     }
 
+    /// [`Peer::seal_many`] of these user data, now, each with a confounder of the system's.
+    ///
+    /// [`Error::Clock`], [`Error::Random`], and the errors of [`Peer::seal_many`].
+    #[cfg(feature = "std")]
+    pub fn seal_many_now(&mut self, user_data: &[impl AsRef<[u8]>]) -> Result<Vec<Vec<u8>>, ManyError> {
+        sys::peer_seal_many_now(&mut self.0, &crate::sealer::user_data_alone(user_data))
+    }
+
     /// [`Peer::open_at`], now. [`Error::Clock`].
     #[cfg(feature = "std")]
     pub fn open(&mut self, frame: &[u8]) -> Result<Body, Error> {

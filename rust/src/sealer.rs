@@ -19,6 +19,14 @@ pub struct Message<'a> {
     pub confounder: Confounder,
 }
 
+/// The messages of user data, without what a call that seals them now reads of the system.
+#[cfg(feature = "std")]
+pub(crate) fn user_data_alone(user_data: &[impl AsRef<[u8]>]) -> Vec<Message<'_>> {
+    let at = Moment { seconds: 0, microseconds: 0 };
+    let message = |it| Message { user_data: it, at, confounder: Confounder::default() };
+    user_data.iter().map(|it| message(it.as_ref())).collect()
+}
+
 /// Why none of several messages was sealed.
 #[derive(Clone, Debug, PartialEq, Eq)]
 pub struct ManyError {
@@ -83,6 +91,14 @@ impl Sealer {
     /// can't be sealed, or [`Error::Memory`].
     pub fn seal_many(&mut self, messages: &[Message<'_>]) -> Result<Vec<Vec<u8>>, ManyError> {
         sys::seal_many(&mut self.0, messages)
+    }
+
+    /// [`Sealer::seal_many`] of these user data, now, each with a confounder of the system's.
+    ///
+    /// [`Error::Clock`], [`Error::Random`], and the errors of [`Sealer::seal_many`].
+    #[cfg(feature = "std")]
+    pub fn seal_many_now(&mut self, user_data: &[impl AsRef<[u8]>]) -> Result<Vec<Vec<u8>>, ManyError> {
+        sys::seal_many_now(&mut self.0, &user_data_alone(user_data))
     }
 
     /// The message of a record, which a [`Receiver`](crate::Receiver) takes, as [`Sealer::seal`] seals

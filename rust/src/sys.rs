@@ -198,6 +198,16 @@ extern "C" {
         sizes: *mut usize,
         failed: *mut usize,
     ) -> u32;
+    #[cfg(feature = "std")]
+    fn krbrelay_sealer_seal_many_now(
+        handle: *mut Raw,
+        messages: *const Unsealed,
+        count: usize,
+        frames: *mut u8,
+        room: usize,
+        sizes: *mut usize,
+        failed: *mut usize,
+    ) -> u32;
     fn krbrelay_sealer_next(handle: *mut Raw, next: *mut u64) -> u32;
     fn krbrelay_sealer_frame_size(
         handle: *mut Raw,
@@ -297,6 +307,16 @@ extern "C" {
         size: *mut usize,
     ) -> u32;
     fn krbrelay_peer_seal_many(
+        handle: *mut Raw,
+        messages: *const Unsealed,
+        count: usize,
+        frames: *mut u8,
+        room: usize,
+        sizes: *mut usize,
+        failed: *mut usize,
+    ) -> u32;
+    #[cfg(feature = "std")]
+    fn krbrelay_peer_seal_many_now(
         handle: *mut Raw,
         messages: *const Unsealed,
         count: usize,
@@ -497,6 +517,21 @@ pub(crate) fn seal_record(
     written(room_of_frame(len.saturating_add(1)), |to, room, size| {
         // SAFETY: the module's rule; the handle is a sealer's.
         unsafe { krbrelay_sealer_seal_record(handle, kind, from, len, at, drawn, to, room, size) }
+    })
+}
+
+/// Of messages the user data alone are read.
+#[cfg(feature = "std")]
+pub(crate) fn seal_many_now(
+    sealer: &mut Handle,
+    messages: &[Message<'_>],
+) -> Result<Vec<Vec<u8>>, ManyError> {
+    let handle = sealer.raw.get();
+    sealed_many(messages, |from, to, room, sizes, failed| {
+        // SAFETY: the module's rule; the handle is a sealer's.
+        unsafe {
+            krbrelay_sealer_seal_many_now(handle, from.as_ptr(), from.len(), to, room, sizes, failed)
+        }
     })
 }
 
@@ -715,6 +750,21 @@ pub(crate) fn peer_seal_now(peer: &mut Handle, user_data: &[u8]) -> Result<Vec<u
     written(room_of_frame(len), |to, room, size| {
         // SAFETY: the module's rule; the handle is a peer's.
         unsafe { krbrelay_peer_seal_now(handle, from, len, to, room, size) }
+    })
+}
+
+/// Of messages the user data alone are read.
+#[cfg(feature = "std")]
+pub(crate) fn peer_seal_many_now(
+    peer: &mut Handle,
+    messages: &[Message<'_>],
+) -> Result<Vec<Vec<u8>>, ManyError> {
+    let handle = peer.raw.get();
+    sealed_many(messages, |from, to, room, sizes, failed| {
+        // SAFETY: the module's rule; the handle is a peer's.
+        unsafe {
+            krbrelay_peer_seal_many_now(handle, from.as_ptr(), from.len(), to, room, sizes, failed)
+        }
     })
 }
 

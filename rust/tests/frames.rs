@@ -143,6 +143,26 @@ fn the_first_message_that_fails_is_named() {
     assert_eq!(last.seal_many(&[hi; 2]).unwrap().len(), 2);
 }
 
+/// Each opens at its number, and no two KRB-PRIV of the same user data are alike.
+#[test]
+#[cfg(feature = "std")]
+fn messages_of_one_call_are_sealed_now() {
+    for (mode, key) in KINDS {
+        let (mut one, mut end) = (sealer(key, mode, FIRST), peer(key, mode, FIRST));
+        for made in [one.seal_many_now(&[b"hi"; 9]), end.seal_many_now(&[b"hi"; 9])] {
+            let (made, mut opener) = (made.unwrap(), Opener::new(key, &expect(mode)).unwrap());
+            for (number, frame) in (u64::from(FIRST)..).zip(&made) {
+                assert_eq!(opener.unseal(frame, number).unwrap(), b"hi");
+            }
+            let others: std::collections::HashSet<_> =
+                made.iter().map(|it| &it[it.len() - 40..]).collect();
+            assert_eq!(others.len(), if mode == Mode::Priv { 9 } else { others.len() });
+        }
+        let too_many = one.seal_many_now(&[b"hi"; MOST_MESSAGES + 1]).unwrap_err();
+        assert_eq!(too_many, ManyError { index: None, error: Error::Argument });
+    }
+}
+
 fn peer(key: Key<'_>, mode: Mode, first: u32) -> Peer {
     Peer::new(key, &session(mode, first), &Demand { number: Some(9), ..Demand::of_sender(RECEIVER) })
         .unwrap()

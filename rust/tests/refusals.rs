@@ -200,6 +200,9 @@ fn each_demand_is_made() {
     let either = Demand { needs_time_or_number: true, ..nothing };
     assert_eq!(said("safe 17, neither time nor number", either), Some(Error::Modified));
     assert_eq!(said("safe 17, no number", either), None);
+    let counted = Demand { needs_time_or_number: true, ..absent };
+    assert_eq!(said("safe 17, neither time nor number", counted), Some(Error::Modified));
+    assert_eq!(said("safe 17, no number", counted), None);
     assert_eq!(
         said("safe 17", Demand { how_receiver: How::AbsentIs0, ..receiver }),
         Some(Error::Argument)

@@ -110,6 +110,20 @@ static uint32_t peer_seal_now(void)
     return krbrelay_peer_seal_now(&handles.peer, given.body, given.body_len, out, given.room, &told.size);
 }
 
+static uint32_t sealer_seal_many_now(void)
+{
+    make_several();
+    return told_of_several(krbrelay_sealer_seal_many_now(&handles.sealer, several.all, given.messages, out,
+                                                         given.room, several.sizes, &several.failed));
+}
+
+static uint32_t peer_seal_many_now(void)
+{
+    make_several();
+    return told_of_several(krbrelay_peer_seal_many_now(&handles.peer, several.all, given.messages, out, given.room,
+                                                       several.sizes, &several.failed));
+}
+
 /* ---- those that open */
 
 static uint32_t opener_unseal(void)
@@ -395,6 +409,8 @@ struct call calls[] = {
     ROW(sealer_seal_now, SEALS, SEALER, OF_DATA, 1, 0, 0),
     ROW(sealer_seal_record_now, SEALS, SEALER, OF_RECORDS, 1, 0, 0),
     ROW(peer_seal_now, SEALS, PEER, OF_DATA, 1, 0, 0),
+    ROW(sealer_seal_many_now, SEALS, SEALER, OF_DATA, 1, 0, 0),
+    ROW(peer_seal_many_now, SEALS, PEER, OF_DATA, 1, 0, 0),
     ROW(opener_unseal, OPENS, OPENER, OF_DATA, 0, 0, 0),
     ROW(opener_unseal_in_place, OPENS, OPENER, OF_DATA, 0, 1, 0),
     ROW(opener_open, OPENS, OPENER, OF_DATA, 0, 0, 0),

@@ -60,6 +60,8 @@ def needed(suite: Suite) -> None:
                           needs_time_or_number=True):
         suite.add(valid(), message(mode, key, NOTHING.but(number=0)), "the number 0", RECEIPT, "TimeOrNumberNeeded")
         suite.add(invalid("order"), message(mode, key, NOTHING.but(number=1)), "the number 1", RECEIPT, "TimeOrNumberNeeded")
+        for it, comment in ((NOTHING, "no timestamp, usec and number"), (NOTHING.but(time=CLOCK), "seconds alone")):
+            suite.add(invalid("order", "fresh"), message(mode, key, it), comment, RECEIPT, "NeitherAtNumber0")
 
 
 def told(asked: Asked) -> list[tuple[Verdict, Fields, str]]:

@@ -18,7 +18,7 @@ use Rattle.krb_seal.proofs.Authentics.{sealed_is_authentic}
 use Rattle.krb_seal.proofs.Outcomes.{one_authenticity}
 use Rattle.krb_seal.proofs.SealedFrames.{all_met, met_all}
 use Rattle.krb_structs.specs.declared.demand.KrbDemand.{KrbDemand}
-use Rattle.krb_structs.specs.Demand.{AreShort, AsDemanded, all_have_room, demand_checks, has_room, is_near, is_within, needs_meet, number_meets, receiver_meets, sender_meets, tells_number, tells_time, time_meets}
+use Rattle.krb_structs.specs.Demand.{AreShort, AsDemanded, all_have_room, demand_checks, has_room, is_near, is_within, needs_meet, number_meets, receiver_meets, sender_meets, tells_time, time_meets}
 use Rattle.krb_structs.specs.Session.{address_of, address_room}
 use Rattle.krb_laws.specs.Demands.{MeetsFields, DemandsMean, OpensAtItsNumberAlone}
 
@@ -83,21 +83,17 @@ short_there s (Some x) room =
     )
 
 -- one of time and number is told
-number_tells : (d : KrbDemand) (s : Option ℕ) → tells_number d s ≡ true → (is_some s ≡ true) ⊎ (d.how_number ≡ 3)
-number_tells d (Some n) tells = inl refl
-number_tells d None tells = inr (eqb-true d.how_number 3 tells)
-
-needed : (d : KrbDemand) (t u s : Option ℕ) → (tells_time d t u || tells_number d s) ≡ true
-    → ((is_some t ≡ true) × ((is_some u ≡ true) ⊎ (d.how_time ≡ 3))) ⊎ ((is_some s ≡ true) ⊎ (d.how_number ≡ 3))
+needed : (d : KrbDemand) (t u s : Option ℕ) → (tells_time d t u || is_some s) ≡ true
+    → ((is_some t ≡ true) × ((is_some u ≡ true) ⊎ (d.how_time ≡ 3))) ⊎ (is_some s ≡ true)
 needed d (Some secs) (Some usec) s tells = inl (refl, inl refl)
 needed d (Some secs) None s tells = by_test (nat_eq d.how_time 3) refl tells
   where
-    by_test : (t : Bool) → nat_eq d.how_time 3 ≡ t → (t || tells_number d s) ≡ true
-        → ((is_some (Some secs) ≡ true) × ((is_some (let none : Option ℕ = None in none) ≡ true) ⊎ (d.how_time ≡ 3))) ⊎ ((is_some s ≡ true) ⊎ (d.how_number ≡ 3))
+    by_test : (t : Bool) → nat_eq d.how_time 3 ≡ t → (t || is_some s) ≡ true
+        → ((is_some (Some secs) ≡ true) × ((is_some (let none : Option ℕ = None in none) ≡ true) ⊎ (d.how_time ≡ 3))) ⊎ (is_some s ≡ true)
     by_test true is tells = inl (refl, inr (eqb-true d.how_time 3 is))
-    by_test false is tells = inr (number_tells d s tells)
-needed d None None s tells = inr (number_tells d s tells)
-needed d None (Some usec) s tells = inr (number_tells d s tells)
+    by_test false is tells = inr tells
+needed d None None s tells = inr tells
+needed d None (Some usec) s tells = inr tells
 
 not_ignored : (how : ℕ) → 2 ≤ how → how ≢ 0
 not_ignored how two none = omega (arith, two, none)
@@ -175,9 +171,9 @@ number_from d None is told none =
 number_from d (Some m) is told none = unless_ignored d.how_number (nat_eq m d.number) (λ asks. eq-eqb m d.number (is asks m refl))
 
 either_tells : (d : KrbDemand) (t u s : Option ℕ)
-    → ((is_some t ≡ true) × ((is_some u ≡ true) ⊎ (d.how_time ≡ 3))) ⊎ ((is_some s ≡ true) ⊎ (d.how_number ≡ 3))
-    → (tells_time d t u || tells_number d s) ≡ true
-either_tells d t u s tells = elim tells [ inl time ↦ left (tells_time d t u) (tells_number d s) (by_time t u time.0 time.1) | inr number ↦ right (tells_time d t u) (tells_number d s) (by_number s number) ]
+    → ((is_some t ≡ true) × ((is_some u ≡ true) ⊎ (d.how_time ≡ 3))) ⊎ (is_some s ≡ true)
+    → (tells_time d t u || is_some s) ≡ true
+either_tells d t u s tells = elim tells [ inl time ↦ left (tells_time d t u) (is_some s) (by_time t u time.0 time.1) | inr number ↦ right (tells_time d t u) (is_some s) number ]
   where
     left : (a b : Bool) → a ≡ true → (a || b) ≡ true
     left true b is = refl
@@ -191,10 +187,6 @@ either_tells d t u s tells = elim tells [ inl time ↦ left (tells_time d t u) (
     by_time (Some secs) (Some usec) there micros = refl
     by_time (Some secs) None there micros = elim micros [ inl told ↦ absurd (let e : false ≡ true = told in cc) | inr three ↦ eq-eqb d.how_time 3 three ]
     by_time None y there micros = absurd (let e : false ≡ true = there in cc)
-
-    by_number : (x : Option ℕ) → (is_some x ≡ true) ⊎ (d.how_number ≡ 3) → tells_number d x ≡ true
-    by_number (Some n) there = refl
-    by_number None there = elim there [ inl told ↦ absurd (let e : false ≡ true = told in cc) | inr three ↦ eq-eqb d.how_number 3 three ]
 
 -- ---- all of them
 
@@ -221,7 +213,7 @@ fields_of d now a b as_demanded =
         number = number_is d a.seq number;
         number_told = number_there d a.seq number;
         absent_is_0 = absent d a.seq number;
-        needs = λ asks. needed d a.time a.usec a.seq (asked d.needs_time_or_number (tells_time d a.time a.usec || tells_number d a.seq) needs asks);
+        needs = λ asks. needed d a.time a.usec a.seq (asked d.needs_time_or_number (tells_time d a.time a.usec || is_some a.seq) needs asks);
       },
     )
 
@@ -238,7 +230,7 @@ as_fields d now b fields =
     (receiver_from d b.r_addr fields.receiver fields.receiver_told) in
     let time = unless_ignored d.how_time (is_within d now b.time b.usec) (λ asks. within_from d now b.time b.usec (fields.time asks) (fields.time_of_second asks) fields.time_told (fields.second_told asks)) in
     let number = number_from d b.seq fields.number fields.number_told fields.absent_is_0 in
-    let needs = unless_ignored d.needs_time_or_number (tells_time d b.time b.usec || tells_number d b.seq) (λ asks. either_tells d b.time b.usec b.seq (fields.needs asks)) in
+    let needs = unless_ignored d.needs_time_or_number (tells_time d b.time b.usec || is_some b.seq) (λ asks. either_tells d b.time b.usec b.seq (fields.needs asks)) in
     all_met (demand_checks d now b) (GivesBody b) (Ok b) (room_from b.s_addr b.r_addr fields.short, (addresses, (time, (number, (needs, tt))))) refl
 
 pub demands_mean : DemandsMean

@@ -17,13 +17,10 @@ use Rattle.krb_structs.specs.Session.{address_of}
 abbrev pub TellsTime : KrbDemand → Body → Type 0
 TellsTime d b = (is_some b.time ≡ true) × ((is_some b.usec ≡ true) ⊎ (d.how_time ≡ 3))
 
--- the message tells its number, and 3 takes an absent one for 0
-abbrev pub TellsNumber : KrbDemand → Body → Type 0
-TellsNumber d b = (is_some b.seq ≡ true) ⊎ (d.how_number ≡ 3)
-
 -- What is demanded of the fields (RFC 4120 sections 3.4.2 and 3.5.2): 0 ignores a field, whatever it is;
 -- where one isn't ignored, what a message tells has to be this; 2 asks the message to tell it; and 3 takes
--- an absent number for 0, and absent microseconds (section 5.1.2). One of time and number can be asked for.
+-- an absent number for 0, and absent microseconds (section 5.1.2). One of time and number can be asked for:
+-- an absent number isn't told then, also where it is taken for 0.
 -- The addresses have room in a struct of C, and microseconds belong to a second.
 pub record MeetsFields (d : KrbDemand) (now : ℕ) (b : Body) : Type 0 where
   pub short : AreShort b.s_addr b.r_addr
@@ -40,7 +37,7 @@ pub record MeetsFields (d : KrbDemand) (now : ℕ) (b : Body) : Type 0 where
   pub number : d.how_number ≢ 0 → (n : ℕ) → b.seq ≡ Some n → n ≡ d.number
   pub number_told : d.how_number ≡ 2 → is_some b.seq ≡ true
   pub absent_is_0 : d.how_number ≡ 3 → b.seq ≡ None → d.number ≡ 0
-  pub needs : d.needs_time_or_number ≢ 0 → TellsTime d b ⊎ TellsNumber d b
+  pub needs : d.needs_time_or_number ≢ 0 → TellsTime d b ⊎ (is_some b.seq ≡ true)
 
 -- a frame opens with demands if and only if it is authentic, and its fields are what is demanded
 abbrev pub DemandsMean : Type 0

@@ -1,6 +1,6 @@
 -- Demands that say all are the checks of a body.
 use Rattle.std.proofs.Common.{◌≡◌, ◌≤◌, ℕ, Bool, true, false, List, [], ◌∷◌, length, take, Option, Some, None, Result, Ok, Err, refl, sym, ap, ◌∙◌, arith, ◌*◌, length-take}
-use Rattle.std.specs.Prelude.{◌&&◌, ◌||◌, not, nat_eq, nat_le}
+use Rattle.std.specs.Prelude.{is_some, ◌&&◌, ◌||◌, not, nat_eq, nat_le}
 use Rattle.std.specs.Str.{bytes_eq}
 use Rattle.std.specs.Ordering.{int_eq}
 use Rattle.std.proofs.lemmas.Bool.{le-leb}
@@ -18,7 +18,7 @@ use Rattle.krb_seal.specs.OpensParts.{Outcome, Checks}
 use Rattle.krb_seal.specs.Authentic.{Authenticity, Authenticates, GivesBody}
 use Rattle.krb_seal.specs.Laws.{OpensTheAuthentic}
 use Rattle.krb_structs.specs.declared.demand.KrbDemand.{KrbDemand}
-use Rattle.krb_structs.specs.Demand.{AsDemanded, IsDemand, OpensWith, all_have_room, demand_checks, has_room, is_within, needs_meet, number_meets, receiver_meets, sender_meets, tells_number, tells_time, time_meets}
+use Rattle.krb_structs.specs.Demand.{AsDemanded, IsDemand, OpensWith, all_have_room, demand_checks, has_room, is_within, needs_meet, number_meets, receiver_meets, sender_meets, tells_time, time_meets}
 use Rattle.krb_structs.specs.Session.{address_of, address_room}
 use Rattle.krb_structs.specs.Laws.{DemandedIsUnsealed, Demands, how_of}
 
@@ -90,9 +90,9 @@ number_same d n None how is = rw how refl
 number_same d n (Some q) how is = asked d.how_number true (nat_eq q d.number) how ∙ ap (λ (k : ℕ). nat_eq q k) is
 
 -- a number that is the demanded one is told
-told_number : (d : KrbDemand) (n : ℕ) (seq : Option ℕ) → is_number n seq ≡ true → tells_number d seq ≡ true
-told_number d n None h = absurd cc
-told_number d n (Some q) h = refl
+told_number : (n : ℕ) (seq : Option ℕ) → is_number n seq ≡ true → is_some seq ≡ true
+told_number n None h = absurd cc
+told_number n (Some q) h = refl
 
 or_true : (a b : Bool) → b ≡ true → (a || b) ≡ true
 or_true true b h = refl
@@ -100,8 +100,8 @@ or_true false b h = h
 
 needs_met : (d : KrbDemand) (n : ℕ) (b : Body) → is_number n b.seq ≡ true → needs_meet d b ≡ true
 needs_met d n b h =
-    let number = told_number d n b.seq h in
-    or_true (nat_eq d.needs_time_or_number 0) (tells_time d b.time b.usec || tells_number d b.seq) (or_true (tells_time d b.time b.usec) (tells_number d b.seq) number)
+    let number = told_number n b.seq h in
+    or_true (nat_eq d.needs_time_or_number 0) (tells_time d b.time b.usec || is_some b.seq) (or_true (tells_time d b.time b.usec) (is_some b.seq) number)
 
 -- ---- an address that is the one of a demand has room
 

@@ -2,7 +2,7 @@
 -- nothing, 1 that what the message tells fits, 2 that the message tells it and it fits. 3 says so
 -- of a number and a time, and counts an absent integer as 0 (RFC 4120 section 5.1.2).
 use Rattle.std.specs.Prelude.{◌≡◌, ℕ, ◌*◌, ◌≤◌, Bool, true, false, not, ◌&&◌, ◌||◌, [], ◌∷◌, List, length}
-use Rattle.std.specs.Prelude.{Option, Some, None, Ok, Err, nat_le, nat_eq}
+use Rattle.std.specs.Prelude.{Option, Some, None, Ok, Err, is_some, nat_le, nat_eq}
 use Rattle.std.specs.Option.{ForSome}
 use Rattle.krb_der.specs.declared.address.HostAddress.{HostAddress}
 use Rattle.krb_der.specs.declared.body.Body.{Body}
@@ -82,22 +82,18 @@ number_meets d None =
     not (nat_eq d.how_number 2) && (not (nat_eq d.how_number 3) || nat_eq d.number 0)
 number_meets d (Some n) = nat_eq d.how_number 0 || nat_eq n d.number
 
--- the message tells its time, as far as it is demanded
+-- the message tells its time: seconds and microseconds, and 3 counts absent microseconds as 0
 abbrev pub tells_time : KrbDemand → Option ℕ → Option ℕ → Bool
 tells_time d (Some secs) (Some usec) = true
 tells_time d (Some secs) None = nat_eq d.how_time 3
 tells_time d None (Some usec) = false
 tells_time d None None = false
 
--- the message tells its number, or it is counted as 0
-abbrev pub tells_number : KrbDemand → Option ℕ → Bool
-tells_number d None = nat_eq d.how_number 3
-tells_number d (Some n) = true
-
--- the message tells its time or its number, where one of both is needed
+-- The message tells its time or its number, where one of both is needed. A number that is counted as 0
+-- isn't told: without a time, such a message could be brought again and again.
 abbrev pub needs_meet : KrbDemand → Body → Bool
 needs_meet d b =
-    nat_eq d.needs_time_or_number 0 || (tells_time d b.time b.usec || tells_number d b.seq)
+    nat_eq d.needs_time_or_number 0 || (tells_time d b.time b.usec || is_some b.seq)
 
 -- ---- the checks, in their order
 

@@ -8,7 +8,7 @@ ghost use Rattle.krb_seal.specs.Unseals.{OrMemory, first_unmet, refusal_of};
 ghost use Rattle.krb_structs.specs.Carried.{carried_of};
 ghost use Rattle.krb_structs.specs.Opening.{Misorders};
 ghost use Rattle.krb_structs.specs.Session.{address_of, address_room};
-ghost use Rattle.krb_structs.specs.Demand.{AreAddresses, AreHows, AreNumbers, AreShort, IsDemand, OpensWith, all_have_room, demand_checks, has_room, is_near, is_within, needs_meet, number_meets, receiver_meets, sender_meets, tells_number, tells_time, time_meets};
+ghost use Rattle.krb_structs.specs.Demand.{AreAddresses, AreHows, AreNumbers, AreShort, IsDemand, OpensWith, all_have_room, demand_checks, has_room, is_near, is_within, needs_meet, number_meets, receiver_meets, sender_meets, tells_time, time_meets};
 
 use crate::carried::{KrbCarried, carried};
 use crate::session::{ADDRESS_ROOM, KrbAddress, are_zeros, is_no_address};
@@ -176,19 +176,10 @@ fn tells_time(demand: &KrbDemand, body: &Body) -> bool
     }
 }
 
-fn tells_number(demand: &KrbDemand, seq: Option<u32>) -> bool
-    ensures { result ≡ tells_number demand.now seq }
-{
-    match seq {
-        None => demand.how_number == 3,
-        Some(_) => true,
-    }
-}
-
 fn needs_meet(demand: &KrbDemand, body: &Body) -> bool
     ensures { result ≡ needs_meet demand.now body.now }
 {
-    demand.needs_time_or_number == 0 || tells_time(demand, body) || tells_number(demand, body.seq)
+    demand.needs_time_or_number == 0 || tells_time(demand, body) || body.seq.is_some()
 }
 
 /// The addresses, the time and the number of an authentic body.

@@ -96,8 +96,12 @@ def is_proved(crate, program):
 
 def table():
     """The words of each crate's line in crates.txt: its name, its options, and what it stands on."""
-    with open(os.path.join(TOP, "crates.txt"), encoding="utf-8") as file:
-        lines = [line.split("#")[0].partition(":") for line in file]
+    return table_of(text_of("crates.txt"))
+
+
+def table_of(text):
+    """The same of the text of a crates.txt."""
+    lines = [line.split("#")[0].partition(":") for line in text.splitlines()]
     return {head.split()[0]: (head.split(), words.split()) for head, _, words in lines if head.strip()}
 
 

@@ -77,7 +77,7 @@ def make_packages(tarball, folder):
         if not good:
             raise NotMade("tools/debian: " + "\n".join(said))
         for name in sorted(os.listdir(room)):
-            if name.endswith((".deb", ".dsc", ".debian.tar.xz", ".orig.tar.gz")) and "-dbgsym_" not in name:
+            if name.endswith((".deb", ".dsc", ".debian.tar.xz", ".orig.tar.gz", ".buildinfo")) and "-dbgsym_" not in name:
                 shutil.copyfile(os.path.join(room, name), os.path.join(folder, name))
 
 

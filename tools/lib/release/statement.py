@@ -1,23 +1,28 @@
 """The statement of what was proved, which a release's folder has: krbrelay-VERSION.proof.json.
 
-It names the commit, the kit, each artefact by its hash, each file that the proofs are of, each crate with
-what the prover said of it, and each clause of its public items.
+It names the commit, the kit and the compilers, each artefact by its hash and each file inside of one, each file
+that the proofs are of, each crate with what the prover said of it, and each clause of its public items by the hash
+of its text.
 """
 import hashlib
-import json
 import os
 import re
+import shutil
 import subprocess
-import tarfile
 
 from lib import scripts
-from lib.build import building, ci
+from lib.build import building, ci, kit_compiler
 from lib.reference import pages, promises, sources
+from lib.release import attested, places
+from lib.release.places import SUMS, files_of, name_of
 
-FORM = 1
-SUMS = "SHA256SUMS"
-TRUSTED = "## What is trusted\n"
+FORM = 2
+LISTS = {"assumed": ("README.md", "## The promise, exactly\n"),     # the premises of the headline
+         "only_tested": ("docs/PROVED.md", "## What is only tested\n"),
+         "trusted": ("docs/PROVED.md", "## What is trusted\n")}
 PROVED = "proved/"          # where the tarball has the sources, definitions and proofs
+COMPILERS = {"gcc": "gcc", "gcc of aarch64": "aarch64-linux-gnu-gcc", "binutils": "ld", "rustc": "rustc", "go": "go"}
+PACKAGERS = ("debhelper", "dpkg-dev")
 
 
 def sha256(data):
@@ -27,16 +32,6 @@ def sha256(data):
 def bytes_of(*path):
     with open(os.path.join(*path), "rb") as file:
         return file.read()
-
-
-def name_of(version):
-    return f"krbrelay-{version}.proof.json"
-
-
-def files_of(folder):
-    """The files of a folder, by their paths below it."""
-    return sorted(os.path.relpath(os.path.join(at, name), folder)
-                  for at, _, names in os.walk(folder) for name in names)
 
 
 def commit():
@@ -52,22 +47,41 @@ def kit():
                           text=True).stdout.strip()
 
 
+def kit_files():
+    """The digests of the kit's prover and its compilers."""
+    found = {"rattle": building.prover(), "rt": shutil.which("rt"), "clang": kit_compiler.clang()}
+    return {name: sha256(bytes_of(os.path.realpath(path))) for name, path in found.items()}
+
+
+def first_line(*words):
+    """What a command says of itself, or that there is none."""
+    if shutil.which(words[0]) is None:
+        return "none"
+    done = subprocess.run(words, check=False, stdin=subprocess.DEVNULL, stdout=subprocess.PIPE, text=True)
+    return done.stdout.partition("\n")[0].strip() or "none"
+
+
+def made_by():
+    """The versions of what makes the artefacts: with others their bytes may differ."""
+    found = {name: first_line(command, "version" if name == "go" else "--version") for name, command in COMPILERS.items()}
+    return found | {name: first_line("dpkg-query", "-W", "-f", "${Version}\n", name) for name in PACKAGERS}
+
+
 # ---- what is proved
 
 def of_tarball(path):
     """The bytes of each file of a tarball, by its path below the tarball's folder."""
-    with tarfile.open(path) as tar:
-        return {it.name.partition("/")[2]: tar.extractfile(it).read() for it in tar if it.isfile()}
+    return places.of_tar(bytes_of(path))
 
 
 def clauses():
-    """The named clauses of each crate's public items."""
+    """The named clauses of each crate's public items, with the digest of the text of each."""
     project = sources.read_project()
     found = {}
     for page in pages.pages_of(project)[2:]:
         for heading, blocks in promises.parts_of(page):
-            named = [it.anchor for it in promises.stated(blocks) if it.anchor]
-            found.setdefault(page.name, []).extend(named)
+            named = {it.anchor: sha256(it.source.text.encode()) for it in promises.stated(blocks) if it.anchor}
+            found.setdefault(page.name, {}).update(named)
     return found
 
 
@@ -75,15 +89,15 @@ def crates(verdicts):
     """Each crate, with what the prover said of it and the clauses of its public items."""
     named = clauses()
     return {crate: {"functions": verdicts[crate].functions, "may_wait": verdicts[crate].may_wait,
-                    "stands_on": words, "clauses": named.get(crate, [])}
+                    "stands_on": words, "clauses": named.get(crate, {})}
             for crate, (_, words) in building.table().items()}
 
 
-def trusted():
-    """The list of docs/PROVED.md, an entry a line of it."""
-    text = building.text_of("docs/PROVED.md").partition(TRUSTED)[2].partition("\n## ")[0]
+def entries(page, heading):
+    """The list under a heading of a page, an entry a line of it."""
+    text = building.text_of(page).partition(heading)[2].partition("\n## ")[0]
     plain = re.sub(r"\[([^\]]*)\]\([^)]*\)", r"\1", text).replace("`", "")
-    return [" ".join(it.split()) for it in re.split(r"(?m)^- ", plain)[1:]]
+    return [" ".join(it.partition("\n\n")[0].split()) for it in re.split(r"(?m)^- ", plain)[1:]]
 
 
 def verdicts():
@@ -100,23 +114,27 @@ def of(folder, known):
         "form": FORM,
         "version": dist.version(),
         "commit": commit(),
+        "committed_at": dist.committed_at(),
         "kit": kit(),
+        "kit_files": kit_files(),
+        "made_by": made_by(),
         "artefacts": {path: {"sha256": sha256(bytes_of(folder, path)),
                              "bytes": os.path.getsize(os.path.join(folder, path))} for path in files_of(folder)},
+        "contents": places.contents(folder),
         "proved_code": {place: sha256(data) for place, data in inside.items() if place.endswith(".s")},
         "sources": {place.removeprefix(PROVED): sha256(data) for place, data in inside.items()
                     if place.startswith(PROVED)},
         "crates": crates(known),
-        "trusted": trusted(),
+        **{name: entries(*where) for name, where in LISTS.items()},
     }
 
 
 def write(folder, known):
-    """Writes the statement and the checksums of all files into the folder."""
-    dist = scripts.load("c/dist")
-    said = json.dumps(of(folder, known), indent=1, ensure_ascii=False) + "\n"
-    with open(os.path.join(folder, name_of(dist.version())), "w", encoding="utf-8") as file:
-        file.write(said)
+    """Writes the statement, its other forms and the checksums of all files into the folder."""
+    told = of(folder, known)
+    for name, data in {name_of(told["version"]): attested.written(told), **attested.forms(told)}.items():
+        with open(os.path.join(folder, name), "wb") as file:
+            file.write(data)
     sums = "".join(f"{sha256(bytes_of(folder, it))}  {it}\n" for it in files_of(folder))
     with open(os.path.join(folder, SUMS), "w", encoding="utf-8") as file:
         file.write(sums)

@@ -43,8 +43,9 @@ krbrelay-status --outbox outbox.db --store sqlite:store.db | sed -n 2p
 python3 -c '{SHOWS}'
 """
 CARRIED = [r"tom +0 +4 +4 +4 +0 +0 +4 +closed.*", "one two"]
-C_EXAMPLE = "cc {}/examples/two_ends.c $(pkg-config --cflags --libs krbrelay) -o two_ends && LD_LIBRARY_PATH=/usr/local/lib ./two_ends"
+C_EXAMPLE = "cc {}/examples/two_ends.c $(pkg-config --cflags --libs krbrelay) -o two_ends && ./two_ends"
 OPENED = ["message 7: hello", "open: 42: the sequence number isn't the expected one"]
+OPENED_BY_NAME = ["message 7: hello", "open: 42 BADORDER"]
 RELAYED = "krbrelay relay < {} | tail -n 1"
 CLOSED = [r"lane 0 sent 3 of 3 DONE CLOSED"]
 GO_PROGRAM = """\
@@ -85,7 +86,7 @@ def purge(*names):
 def rows(version):
     tree = f"{AT}/krbrelay-{version}"
     unpack = f"tar xf {tree}.tar.gz -C {AT}"
-    library = f"{unpack} && make -s -C {tree} install PREFIX=/usr/local > /dev/null"
+    library = f"{unpack} && make -s -C {tree} install PREFIX=/usr/local > /dev/null && ldconfig"
     return [
         Row("the library, on Debian", C_EXAMPLE.format("/usr/share/doc/libkrbrelay-dev"), OPENED,
             purge("libkrbrelay1", "libkrbrelay-dev")),
@@ -93,15 +94,16 @@ def rows(version):
         Row("the program `krbrelay`", RELAYED.format("/usr/share/doc/krbrelay/examples/batches.toml"), CLOSED, purge("krbrelay")),
         Row("the program, elsewhere", RELAYED.format(f"{tree}/program/jobs/batches.toml"), CLOSED,
             f"make -s -C {tree}/program uninstall PREFIX=/usr/local && rm -r {tree}", unpack),
-        Row("Python", f"{unpack} && {WORK}/env/bin/python3 {tree}/python/examples/two_ends.py", ["message 7: hello", "open: 42 BADORDER"],
-            f"{WORK}/env/bin/pip uninstall -qy krbrelay && rm -r {WORK}/env {tree}",
-            f"python3 -m venv {WORK}/env"),
-        Row("Rust", f"cp {tree}/examples/two_ends.rs src/main.rs && cargo run -q --offline", OPENED, f"rm -r {tree}",
-            f"cargo new -q --vcs none --name user {WORK}/user"),
+        Row("Python, on Debian", "python3 /usr/share/doc/python3-krbrelay/examples/two_ends.py", OPENED_BY_NAME,
+            purge("python3-krbrelay", "libkrbrelay1")),
+        Row("Python, elsewhere", f"{unpack} && {AT}/env/bin/python3 {tree}/python/examples/two_ends.py", OPENED_BY_NAME,
+            f"{AT}/env/bin/pip uninstall -qy krbrelay && rm -r {AT}/env {tree}"),
+        Row("Rust", f"cp {AT}/rust/krbrelay-{version}/examples/two_ends.rs src/main.rs && cargo run -q --offline", OPENED,
+            f"rm -r {AT}/rust/krbrelay-{version}", f"cargo new -q --vcs none --name user {WORK}/user"),
         Row("Go", f"cat > main.go <<'END'\n{GO_PROGRAM}END\ngo run .", ["hello <nil>"], f"rm -r {AT}/krbrelay-go-{version}",
             f"mkdir {WORK}/user && cd {WORK}/user && go mod init user"),
         Row("senders and receivers over a queue, on", CARRIES, CARRIED, purge("krbrelay-carrier", "libkrbrelay1")),
-        Row("the same, elsewhere", f"export LD_LIBRARY_PATH=/usr/local/lib\n{CARRIES}", CARRIED,
+        Row("the same, elsewhere", CARRIES, CARRIED,
             f"make -s -C {tree}/carrier uninstall PREFIX=/usr/local && make -s -C {tree} uninstall PREFIX=/usr/local && rm -r {tree}"
             f" && {purge('libsqlite3-dev')}", f"apt-get -qq install -y --no-install-recommends libsqlite3-dev && {library}"),
     ]
@@ -118,13 +120,12 @@ def commands(folder, version):
     for row in ROW.finditer(text):
         first, *more = re.findall(r"`([^`]+)`", row["how"]) or [""]
         found[row["what"].strip()] = [f"cd {AT} && {typed(first)}"] + [f"cd {WORK}/user && {it}" for it in more]
-    return {what: [it.replace("../krbrelay-", f"{AT}/krbrelay-") for it in words] for what, words in found.items()}
+    return {what: [it.replace("../", f"{AT}/") for it in words] for what, words in found.items()}
 
 
 def typed(command):
-    """The command as it is run here: without questions, and pip as that of an environment."""
-    command = command.replace("apt-get install", "apt-get -qq install -y --no-install-recommends")
-    return re.sub(r"^pip ", f"{WORK}/env/bin/pip ", command)
+    """The command as it is run here: without questions."""
+    return command.replace("apt-get install", "apt-get -qq install -y --no-install-recommends")
 
 
 # ---- the system
