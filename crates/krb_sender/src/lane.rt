@@ -282,7 +282,7 @@ impl Lane {
     /// A session that isn't done and isn't over waits for its turn, or is looked at within 64 seconds
     /// (`none_is_forgotten`); one that could publish if there were room waits for its turn, or is looked at within a tenth
     /// of a second (`none_waits_in_vain`). What is under way is the sum of what its sessions have under way, and one that
-    /// is over has none (`room_is_the_sum`); a shard has room for 2,048 frames less what is under way (`has_room`); and
+    /// is over has none (`room_is_the_sum`); a shard that has a list has room for the rest of its bound (`has_room`); and
     /// while something is under way, some session that has it is looked at within 64 seconds (`room_comes`).
     pub fn laws(&self)
         ensures none_is_forgotten { NoneIsForgotten self.now }
