@@ -1,5 +1,5 @@
-"""Faults that are planted in the shipped programs, beside carrier/tests/mutants.py: in each edit the file, the text that
-stands there once, and what takes its place. Those around the calls of krb_engine are engine.h's."""
+"""Faults that are planted in the shipped programs, beside carrier/tests/mutants.py: in each edit the file, the text
+that stands there once, and what takes its place. Those around the calls of krb_engine are engine.h's."""
 
 EDITS = {
     "digests aren't compared": [("sender_receipts.c", """\

@@ -75,11 +75,12 @@ GROUPS = [
     "lost", "carrier", "deleted", "cut", "purged", "killed", "database", "statement", "store_unknown", "outbox_unknown",
     "slow", "memory", "uncommitted", "stopped", "restored", "restored+purged+killed", "restored+carrier", "forked",
     "forked+killed", "taken_over", "moved", "moved+stopped", "added", "later", "unreadable+killed", "row_gone",
-    "row_spoilt", "refused_a_while", "refused", "refused+aside", "refused_many+aside", "slow_effects", "clock", "bounded",
-    "tickets", "tickets+keys", "tickets+kdc", "tickets+keys+kdc+killed", "many+carrier", "bursts+carrier", "bursts",
+    "row_spoilt", "refused_a_while", "refused", "refused+aside", "refused_many+aside", "slow_effects", "clock",
+    "bounded", "tickets", "tickets+keys", "tickets+kdc", "tickets+keys+kdc+killed", "many+carrier", "bursts+carrier", "bursts",
     "calm", "silent", "skewed", "copied+tickets",
 ]
-# Of these a run has one: a second sender, wrong clocks (or frames that are gone besides), many texts or slow effects, rows, refused texts.
+# Of these a run has one: a second sender; wrong clocks, or frames that are gone; many texts, or slow effects; rows that are
+# changed; refused texts.
 CONFLICTS = [("restored", "forked", "taken_over"), ("clock", "skewed", "cut"), ("many", "bursts", "slow_effects"),
              ("row_gone", "row_spoilt"), ("refused", "refused_many", "refused_a_while")]
 
