@@ -1,6 +1,6 @@
 """The keys, addresses and frames that the tests expect: of krb_seal and krb_peers (in
-krb_message_tests), krb_core (in krb_thread_tests), krb_commands, krbrelay, krb_structs and krb_laws (both in
-krb_call_tests), of the C programs, of the program example_seal and of the package in python/. The sealer
+krb_message_tests), krb_forgery, krb_core (in krb_thread_tests), krb_commands, krbrelay, krb_structs and krb_laws
+(both in krb_call_tests), of the C programs, of the program example_seal and of the package in python/. The sealer
 is frames.py."""
 import hashlib
 
@@ -82,6 +82,7 @@ def odd_parts():
     yield "priv 17, confounder 0", seal_priv(KEY_128, INNER, bytes(16))
     yield "priv 17, confounder 1", seal_priv(KEY_128, INNER, bytes([1] * 16))
     yield "priv 18, confounder 0", seal_priv(KEY_256, INNER, bytes(16))
+    yield "priv 17, the text under the code of the first drawn confounder", DRAWN[:16] + tlv(0x7C, INNER)
     yield "priv 17, no part", seal_part(KEY_128, bytes(16))
     yield "priv 17, a part cut short", seal_part(KEY_128, bytes(16) + tlv(0x7C, INNER)[:-1])
     yield "priv 17, a wide length", seal_part(KEY_128, bytes(16) + b"\x7c\x81\x37" + INNER)

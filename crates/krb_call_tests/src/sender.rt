@@ -1,6 +1,8 @@
 //! A shard of a sender: what each call answers, and that no session stands while others take its room and the carrier
 //! loses all.
 
+ghost use Rattle.std.specs.Prelude.{◌≡◌};
+
 use krb_carry::Receipt;
 use krb_engine::{Asks, Command};
 use krb_sender::{Heard, Lane, Own, Row, Served, Times, Turn};
@@ -14,7 +16,8 @@ const OTHER: [u8; 20] = [2; 20];
 
 /// What the outbox has of a session of which so much is stored.
 fn row_of(next: u64) -> Row
-    ensures { result ≡ record { next = next; carried = 0; at = 0; done = 0; list = 5 } }
+    ensures done { result.done ≡ 0 }
+    ensures carried { result.carried ≡ 0 }
 {
     Row {
         next,
@@ -137,6 +140,7 @@ fn the_first_time_is_found(rt: HostRuntime) -> Result<(), Fail> {
     let mut times = Times::new(rt.alloc());
     assert_eq!(rt; times.first(), None);
     for _ in 0..7 {
+        assert!(rt; times.len() < 7);
         times.add()?;
     }
     for (place, at, first) in [
@@ -166,12 +170,15 @@ struct Carrier {
 
 /// What leaves is carried and takes effect, which a receipt says.
 fn deliver(lane: &mut Lane, carrier: &mut Carrier, place: u32, from: u64, count: u64, now: u64) {
-    if place as usize >= lane.len() {
-        return;
-    }
     for k in 0..count.min(16) {
+        if place as usize >= lane.len() {
+            return;
+        }
         carrier.offset = carrier.offset.saturating_add(1);
         lane.confirmed(place, from.saturating_add(k), carrier.offset, now);
+    }
+    if place as usize >= lane.len() {
+        return;
     }
     let receipt = Receipt {
         number: from.saturating_add(count),

@@ -1,0 +1,2 @@
+pub mod ForgeryLemmas
+pub mod ShownLemmas
