@@ -20,9 +20,10 @@ use Rattle.krb_etype.specs.CodeKey.{code_key}
 use Rattle.krb_etype.specs.Keys.{tag_of}
 use Rattle.krb_keys.specs.Hmac.{hmac96}
 use Rattle.krb_peers.specs.declared.delivery.Delivery.{Delivery}
-use Rattle.krb_peers.specs.Attempt.{Attempt, IsAttempt, demand_at}
+use Rattle.krb_peers.specs.Attempt.{Attempt, IsAttempt, IsAttemptAfter, demand_at}
 use Rattle.krb_peers.specs.Moments.{moment_at}
-use Rattle.krb_peers.specs.Verdicts.{Carries, record_of}
+use Rattle.krb_peers.specs.Verdicts.{Carries, events_from, record_of}
+use Rattle.krb_peers.proofs.ClaimLemmas.{frames_headline_of}
 use Rattle.krb_record.specs.declared.record.Record.{Record}
 use Rattle.krb_record.specs.Record.{SpellsRecord, bytes_of}
 use Rattle.krb_seal.specs.declared.session.Expect.{Expect}
@@ -35,7 +36,7 @@ use Rattle.krb_seal.specs.OpensParts.{OpensPart, frame_checks, text_checks}
 use Rattle.krb_seal.specs.Sealer.{SealerState}
 use Rattle.krb_seal.specs.Seals.{body_of, safe_checksum, sealed_as, sealed_priv, sealed_safe, unsigned}
 use Rattle.krb_seal.proofs.SealedFrames.{met_all, same_data, short_part}
-use Rattle.krb_forgery.specs.Forgery.{Accepts, Breaks, BreaksFindBytes, HasSameKey, IsCoded, IsCodedOfOne, IsTry, NoneFound, NoneFoundIsNoForgery, NoneIsReflected, OpensAsSealed, OpensCodedBytes, Shows, coded_as}
+use Rattle.krb_forgery.specs.Forgery.{Accepts, Breaks, BreaksFindBytes, HasSameKey, HeadlineWhereNoneFound, IsCoded, IsCodedOfOne, IsTry, NoneFound, NoneFoundIsNoForgery, NoneIsReflected, OpensAsSealed, OpensCodedBytes, Shows, coded_as}
 
 -- ---- what the checks say
 
@@ -254,3 +255,9 @@ breaks_find_bytes sealer records attempt place frame d is breaks = finds sealer 
 
 pub none_found : NoneFoundIsNoForgery
 none_found sealer records attempt is none = is_attempt sealer records attempt is none
+
+pub headline_where_none_found : HeadlineWhereNoneFound
+headline_where_none_found sealer records first attempt is begins none =
+    let after : IsAttemptAfter sealer records first attempt = record { are = is.are; tries = none_found sealer records attempt is none; begins = begins } in
+    let claims = frames_headline_of sealer records first attempt (events_from attempt.verdicts) is.judged refl in
+    (claims.delivered_prefix after, claims.all_where_closed after)

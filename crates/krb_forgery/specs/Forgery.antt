@@ -1,5 +1,7 @@
 -- Bytes and their code, in a frame that opens.
 use Rattle.std.specs.Prelude.{◌≡◌, ℕ, ◌+◌, true, false, List, ◌++◌, slice_get, Some, Ok}
+use Rattle.std.specs.List.{flat_map}
+use Rattle.krb_base.specs.Prefix.{IsPrefix}
 use Rattle.krb_der.specs.declared.body.Body.{Body}
 use Rattle.krb_der.specs.declared.message.Message.{Message}
 use Rattle.krb_der.specs.declared.message.Message.TheVariants as messages
@@ -10,11 +12,13 @@ use Rattle.krb_etype.specs.declared.etype.Etype.{Etype}
 use Rattle.krb_etype.specs.Keys.{IsEncryption}
 use Rattle.krb_keys.specs.Hmac.{hmac96}
 use Rattle.krb_peers.specs.declared.delivery.Delivery.{Delivery}
-use Rattle.krb_peers.specs.Attempt.{Attempt, HasKey, IsAttempt, demand_at}
+use Rattle.krb_peers.specs.Attempt.{Attempt, DemandsAfter, HasKey, IsAttempt, demand_at}
+use Rattle.krb_peers.specs.Claims.{texts_with}
+use Rattle.krb_peers.specs.Log.{has_closed}
 use Rattle.krb_peers.specs.Session.{AreRecords, IsFrameOf}
-use Rattle.krb_peers.specs.Verdicts.{AreJudged, record_of}
+use Rattle.krb_peers.specs.Verdicts.{AreJudged, events_from, record_of}
 use Rattle.krb_record.specs.declared.record.Record.{Record}
-use Rattle.krb_record.specs.Record.{bytes_of}
+use Rattle.krb_record.specs.Record.{bytes_of, texts_of}
 use Rattle.krb_seal.specs.declared.coded.Covered.{Covered}
 use Rattle.krb_seal.specs.declared.coded.Covered.TheVariants as covered
 use Rattle.krb_seal.specs.declared.session.Mode.{Mode}
@@ -146,3 +150,14 @@ abbrev pub NoneFoundIsNoForgery : Type 0
 NoneFoundIsNoForgery =
     (sealer : SealerState) (records : List Record) (attempt : Attempt)
     → IsTry sealer records attempt → NoneFound sealer records attempt → IsAttempt sealer records attempt
+
+-- And so the headline: what is delivered is a prefix of the texts, in order and each once, and all of them if the close was
+-- accepted.
+abbrev pub HeadlineWhereNoneFound : Type 0
+HeadlineWhereNoneFound =
+    (sealer : SealerState) (records : List Record) (first : ℕ) (attempt : Attempt)
+    → IsTry sealer records attempt → DemandsAfter sealer records first attempt.receiver.demand
+    → NoneFound sealer records attempt
+    → let events = events_from attempt.verdicts in
+    IsPrefix (texts_with records first events) (flat_map texts_of records)
+    × (has_closed events ≡ true → texts_with records first events ≡ flat_map texts_of records)

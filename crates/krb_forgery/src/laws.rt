@@ -1,6 +1,6 @@
 //! From a frame that opens to bytes and their code.
 
-ghost use Rattle.krb_forgery.specs.Forgery.{BreaksFindBytes, NoneFoundIsNoForgery, NoneIsReflected, OpensCodedBytes};
+ghost use Rattle.krb_forgery.specs.Forgery.{BreaksFindBytes, HeadlineWhereNoneFound, NoneFoundIsNoForgery, NoneIsReflected, OpensCodedBytes};
 
 /// What somebody holds who has made a receiver accept what nobody sealed.
 ///
@@ -11,10 +11,12 @@ ghost use Rattle.krb_forgery.specs.Forgery.{BreaksFindBytes, NoneFoundIsNoForger
 /// A break is a frame that a receiver accepts though it was sealed of none of the session's records and carries another
 /// one than that of its number, whoever made it, in whatever session. From each, bytes are found that were coded of none
 /// of the records, and their code (`finds`). So where nobody found such bytes, an attempt has the premise of the
-/// headline, `no_forgery` (`premise`).
+/// headline, `no_forgery` (`premise`), and what is delivered is a prefix of the texts, in order and each once, and all of
+/// them if the close was accepted (`headline`).
 pub fn forgery_laws()
     ensures shows { OpensCodedBytes }
     ensures reflected { NoneIsReflected }
     ensures finds { BreaksFindBytes }
     ensures premise { NoneFoundIsNoForgery }
+    ensures headline { HeadlineWhereNoneFound }
 {}
