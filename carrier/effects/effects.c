@@ -75,6 +75,7 @@ static int choose(const char *word)
         chosen.call = take_by_object;
         return object_choose(rest);
     }
+    /* effects_check_option let nothing else pass. */
     (void)begins(word, "command:", &rest);
     chosen.call = command_take;
     return command_choose(rest);

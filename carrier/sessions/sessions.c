@@ -228,7 +228,7 @@ static int is_repeated(const struct sessions *s, const struct place *one,
                        const struct place *other, int is_key)
 {
     struct session a, b;
-    int is_same = read_line(s, one->at, &a) && read_line(s, other->at, &b)
+    int is_same = read_line(s, one->at, &a) == WRONG_NONE && read_line(s, other->at, &b) == WRONG_NONE
                   && (is_key ? have_same_key(&a, &b, one->at == other->at)
                              : strcmp(a.name, b.name) == 0);
     explicit_bzero(&a, sizeof a);

@@ -398,17 +398,17 @@ def test_a_store_that_is_another_file_is_noticed(ends):
 
 # ---- what isn't taken
 
-@pytest.mark.parametrize("word, told", [
-    ("sql:INSERT INTO mine VALUES (:name)", "the names are :session"),
-    ("sql:DELETE FROM mine; SELECT 1", "it is one statement"),
-    ("sql:INSERT INTO mine VALUES ($1)", "values have names"),
-    ("sql: \n", "there is no statement"),
-    ("command:", "there is no command"),
-    ("object:/nowhere/it.so", "cannot open shared object"),
-    ("rows", "this is no effect")])
-def test_a_word_that_is_no_effect(ends, word, told):
+@pytest.mark.parametrize("word, status, told", [
+    ("sql:INSERT INTO mine VALUES (:name)", 1, "the names are :session"),
+    ("sql:DELETE FROM mine; SELECT 1", 1, "it is one statement"),
+    ("sql:INSERT INTO mine VALUES ($1)", 1, "values have names"),
+    ("sql: \n", 1, "there is no statement"),
+    ("command:", 1, "there is no command"),
+    ("object:/nowhere/it.so", 1, "cannot open shared object"),
+    ("rows", 2, "this is no effect")])
+def test_a_word_that_is_no_effect(ends, word, status, told):
     process = ends.receiver("--effect", word)
-    assert process.wait(30) == 1 and told in ends.log()
+    assert process.wait(30) == status and told in ends.log()
 
 
 def test_an_object_without_take_effect(ends):
