@@ -63,7 +63,7 @@ static int work(struct sender *s)
                  field_text("text", "another sender has taken it over: this one ends"));
     held = s->held;
     stopped = 0;
-    if (s->outbox.db != NULL && outbox_count_stopped(&s->outbox, &stopped) != 0 && answer >= 0)
+    if (answer >= 0 && outbox_count_stopped(&s->outbox, &stopped) != 0)
         answer = OUTBOX_FAULT; /* whether all could be sent isn't known */
     sender_close(s);
     log_end();
