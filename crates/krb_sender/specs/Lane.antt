@@ -157,6 +157,7 @@ pub record Turns (old : LaneState) (served : Served) (new : LaneState) : Type 0 
   pub before : SessionState
   pub after : SessionState
   pub has_list : old.list ≡ Some list
+  pub keeps_list : new.list ≡ Some list
   pub there : served.place < length old.sessions
   pub is_before : before ≡ slice_index_or old.sessions served.place before
   pub becomes : new.sessions ≡ slice_set old.sessions served.place after
@@ -166,7 +167,7 @@ pub record Turns (old : LaneState) (served : Served) (new : LaneState) : Type 0 
 -- No session has its turn: the shard has no list; or no time has come, and none waits in the queue, or there is no room.
 abbrev pub HasNoTurn : LaneState → LaneState → Type 0
 HasNoTurn old new =
-    (new.sessions ≡ old.sessions)
+    (new.sessions ≡ old.sessions) × (new.list ≡ old.list)
     × ((old.list ≡ None)
     ⊎ (NoneIsDue new.times new.clock × ((room_with new.list new.under_way ≡ 0) ⊎ (new.queue ≡ []))))
 
@@ -179,13 +180,20 @@ pub record IsNext (lane : LaneState) (at : ℕ) : Type 0 where
 
 -- ---- what happens
 
--- One session has become another; the others are as they were.
-abbrev pub Becomes : LaneState → ℕ → (SessionState → SessionState) → LaneState → Type 0
-Becomes old place change new =
-    (before : SessionState) × (before ≡ slice_index_or old.sessions place before)
-    × (new.sessions ≡ slice_set old.sessions place (change before))
+-- The session of a place was such a one.
+abbrev pub Was : LaneState → ℕ → (SessionState → Type 0) → Type 0
+Was old place is_such =
+    (before : SessionState) × (before ≡ slice_index_or old.sessions place before) × is_such before
 
--- A receipt is of one session; the others are as they were.
+-- One session has become another; the others are as they were, and so are the shard's list and its clock.
+pub record Becomes (old : LaneState) (place : ℕ) (change : SessionState → SessionState) (new : LaneState) : Type 0 where
+  pub before : SessionState
+  pub is_before : before ≡ slice_index_or old.sessions place before
+  pub becomes : new.sessions ≡ slice_set old.sessions place (change before)
+  pub list : new.list ≡ old.list
+  pub clock : new.clock ≡ old.clock
+
+-- A receipt is of one session; the others are as they were, and so are the shard's list and its clock.
 pub record Hears (old : LaneState) (place : ℕ) (receipt : Receipt) (own : Own) (asks : Asks) (now : ℕ) (heard : Heard)
     (new : LaneState) : Type 0 where
   pub before : SessionState
@@ -193,6 +201,8 @@ pub record Hears (old : LaneState) (place : ℕ) (receipt : Receipt) (own : Own)
   pub is_before : before ≡ slice_index_or old.sessions place before
   pub becomes : new.sessions ≡ slice_set old.sessions place after
   pub receives : Receives before receipt own asks now heard after
+  pub list : new.list ≡ old.list
+  pub clock : new.clock ≡ old.clock
 
 -- the shard has this list; its sessions, its room and its clock are as they were
 pub record IsSameButList (old : LaneState) (given : Option ℕ) (new : LaneState) : Type 0 where

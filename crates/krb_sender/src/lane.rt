@@ -7,7 +7,7 @@ ghost use Rattle.krb_engine.specs.Sending as engine;
 ghost use Rattle.krb_sender.specs.Times.{NoneIsDue, time_of};
 ghost use Rattle.krb_sender.specs.Session.{is_idle, loaded, released, stopped, weight, with_end};
 ghost use Rattle.krb_sender.specs.SessionState.{SessionState};
-ghost use Rattle.krb_sender.specs.Lane.{AllAreAwake, Becomes, HasNoTurn, HasRoom, Hears, IsAwake, IsNext, NoneIsForgotten, NoneWaitsInVain, RoomComes, RoomIsTheSum, Turns, look_time, memory_pause, more_of, no_sessions, room_with, IsSameButList};
+ghost use Rattle.krb_sender.specs.Lane.{AllAreAwake, Becomes, HasNoTurn, HasRoom, Hears, IsAwake, IsNext, NoneIsForgotten, NoneWaitsInVain, RoomComes, RoomIsTheSum, Turns, Was, look_time, memory_pause, more_of, no_sessions, room_with, IsSameButList};
 
 use crate::{Heard, Own, Row, Session, Times, Turn};
 use krb_carry::Receipt;
@@ -81,6 +81,14 @@ impl Lane {
         self.sessions.len()
     }
 
+    /// The session of a place.
+    pub fn session(&self, place: u32) -> &Session
+        requires { place < length self.now.sessions }
+        ensures { (other : SessionState) → result.now ≡ slice_index_or self.now.sessions place other }
+    {
+        &self.sessions[place as usize]
+    }
+
     /// One session more, of which the outbox has this. If memory runs out, the shard has no session more.
     pub fn add(&mut self, row: &Row, opens: bool) -> Result<(), AllocError>
         requires few { length self.old.sessions < 2 ^ 32 - 1 }
@@ -88,6 +96,8 @@ impl Lane {
         requires carried { row.now.carried ≤ row.now.next }
         ensures ok { OnOk result (self.new.sessions ≡ self.old.sessions ++ loaded row.now opens self.old.clock ∷ []) }
         ensures err { OnErr result (self.new.sessions ≡ self.old.sessions) }
+        ensures list { self.new.list ≡ self.old.list }
+        ensures clock { self.new.clock ≡ self.old.clock }
     {
         let place = self.sessions.len() as u32;
         let session = Session::load(row, opens, self.clock);
@@ -168,7 +178,7 @@ impl Lane {
         requires there { place < length self.old.sessions }
         requires done { row.now.done ≤ row.now.carried }
         requires carried { row.now.carried ≤ row.now.next }
-        ensures { Becomes self.old place (λ it. loaded row.now opens self.old.clock) self.new }
+        ensures session { Becomes self.old place (λ it. loaded row.now opens self.old.clock) self.new }
     {
         let session = &mut self.sessions[place as usize];
         let before = session.weight();
@@ -180,7 +190,8 @@ impl Lane {
     /// So many frames more are stored, if there are numbers for them.
     pub fn sealed(&mut self, place: u32, count: u64) -> bool
         requires { place < length self.old.sessions }
-        ensures { Becomes self.old place (λ it. with_end it (if result then engine.sealed it.end count else it.end)) self.new }
+        ensures fits { Was self.old place (λ it. IsTrue result ↔ (it.end.progress.next + count < 2 ^ 64)) }
+        ensures session { Becomes self.old place (λ it. with_end it (if result then engine.sealed it.end count else it.end)) self.new }
     {
         let session = &mut self.sessions[place as usize];
         let before = session.weight();
@@ -193,7 +204,8 @@ impl Lane {
     /// A copy of the frame of this number stands at this offset of the shard's list: whether it counts.
     pub fn confirmed(&mut self, place: u32, number: u64, offset: u64, now: u64) -> bool
         requires { place < length self.old.sessions }
-        ensures { Becomes self.old place (λ it. with_end it (if result then engine.confirmed it.end offset now else it.end)) self.new }
+        ensures counts { Was self.old place (λ it. IsTrue result ↔ Counts it.end.progress number offset) }
+        ensures session { Becomes self.old place (λ it. with_end it (if result then engine.confirmed it.end offset now else it.end)) self.new }
     {
         let session = &mut self.sessions[place as usize];
         let before = session.weight();
@@ -213,7 +225,7 @@ impl Lane {
         now: u64,
     ) -> Heard
         requires { place < length self.old.sessions }
-        ensures { Hears self.old place receipt.now own asks now result self.new }
+        ensures session { Hears self.old place receipt.now own asks now result self.new }
     {
         let session = &mut self.sessions[place as usize];
         let before = session.weight();
@@ -226,7 +238,7 @@ impl Lane {
     /// Nothing of the session leaves any more, and it has nothing under way.
     pub fn stop(&mut self, place: u32)
         requires { place < length self.old.sessions }
-        ensures { Becomes self.old place (λ it. stopped it) self.new }
+        ensures session { Becomes self.old place (λ it. stopped it) self.new }
     {
         let session = &mut self.sessions[place as usize];
         let before = session.weight();
@@ -238,7 +250,7 @@ impl Lane {
     /// The session's opening may leave in its next turn.
     pub fn release(&mut self, place: u32)
         requires { place < length self.old.sessions }
-        ensures { Becomes self.old place (λ it. released it) self.new }
+        ensures session { Becomes self.old place (λ it. released it) self.new }
     {
         let session = &mut self.sessions[place as usize];
         let before = session.weight();

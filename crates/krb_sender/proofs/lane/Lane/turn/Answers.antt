@@ -31,6 +31,7 @@ returns-clause-some c =
       before = c.index_mut-session.result.now;
       after = c.serve-turn.new.self;
       has_list = c.in_ok-list.was;
+      keeps_list = c.in_ok-list.was;
       there = turn_there lane c.in_ok-place.place c.self.invariant c.in_ok-place.ensures.there;
       is_before = c.index_mut-session.ensures.value;
       becomes = refl;
