@@ -20,14 +20,14 @@ HELP = "crates/krb_program/src/help.rt"
 STRUCTS = ("crates/krb_structs/src/*.rt", "crates/krb_calls/src/unsealed.rt",
            "crates/krb_calls/src/frame.rt", "crates/krb_calls/src/taken.rt",
            "crates/krb_carrier_structs/src/*.rt", "crates/krb_window/src/window.rt")
-HANDLES = {"sealer", "opener", "receiver", "peer", "queue"}
+HANDLES = {"sealer", "opener", "receiver", "peer", "lane", "queue"}
 C_TYPES = {"uint64_t": "u64", "uint32_t": "u32", "int32_t": "i32", "uint8_t": "u8", "size_t": "usize",
            "const uint8_t *": "*const u8",
            **{f"struct krbrelay_{it}": f"Krb{it.capitalize()}" for it in
-              ("address", "moment", "pause", "progress", "row", "spot")}}
+              ("address", "command", "moment", "pause", "progress", "row", "spot")}}
 PYTHON_TYPES = {"c_uint64": "u64", "c_uint32": "u32", "c_int32": "i32", "c_uint8": "u8", "c_size_t": "usize",
                 "c_char_p": "*const u8", "ADDRESS_LIMIT": "ADDRESS_ROOM", "CONFOUNDER_SIZE": "16",
-                **{f"{it}Struct": f"Krb{it}" for it in ("Address", "Moment", "Pause", "Progress", "Row", "Spot")}}
+                **{f"{it}Struct": f"Krb{it}" for it in ("Address", "Command", "Moment", "Pause", "Progress", "Row", "Spot")}}
 # Bytes that a struct of Rust borrows are two fields in C.
 LENT = re.compile(r"&'\w+ \[u8\]")
 ORACLE = "tests/oracle"

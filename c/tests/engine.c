@@ -285,6 +285,87 @@ static void queues(void)
     krbrelay_queue_free(&queue);
 }
 
+/* ---- a lane */
+
+static const struct krbrelay_stored THREE_STORED = { .next = 3, .list = 7 };
+
+/* The next turn of a lane is of this session, and does this. */
+static int turns_to(struct krbrelay_lane *lane, uint64_t now, uint32_t place, uint32_t kind, uint64_t count)
+{
+    struct krbrelay_served served = { .place = 99 };
+    return krbrelay_lane_turn(lane, now, &served) == 1 && served.place == place && served.command.kind == kind
+           && served.command.count == count && served.is_moved == 0;
+}
+
+static int has_no_turn(struct krbrelay_lane *lane, uint64_t now)
+{
+    struct krbrelay_served served = { .place = 99 };
+    return krbrelay_lane_turn(lane, now, &served) == 0 && served.place == 99;
+}
+
+/* Two sessions of a shard: frames leave, are confirmed, and a receipt ends one's turn. */
+static void lanes(void)
+{
+    static const struct krbrelay_receipt receipt = { .number = 3, .history = { 5 }, .asks = KRBRELAY_ASKS_NOTHING };
+    struct krbrelay_lane lane = KRBRELAY_INIT;
+    struct krbrelay_sending end;
+    uint32_t place = 99, counts = 99, heard = 99;
+    IS(krbrelay_lane_add(&lane, &THREE_STORED, 0, &place));
+    CHECK(place == 0);
+    IS(krbrelay_lane_add(&lane, &THREE_STORED, 0, &place));
+    CHECK(place == 1 && has_no_turn(&lane, 50) && krbrelay_lane_next_time(&lane) == UINT64_MAX);
+    IS(krbrelay_lane_listed(&lane, 1, 7));
+    CHECK(turns_to(&lane, 60, 0, KRBRELAY_COMMAND_PUBLISH, 3) && turns_to(&lane, 60, 1, KRBRELAY_COMMAND_PUBLISH, 3));
+    IS(krbrelay_lane_confirmed(&lane, 0, 0, 11, 70, &counts));
+    CHECK(counts == 1);
+    IS(krbrelay_lane_confirmed(&lane, 0, 2, 12, 70, &counts));
+    CHECK(counts == 0);
+    IS(krbrelay_lane_session(&lane, 0, &end));
+    CHECK(end.progress.next == 3 && end.progress.carried == 1 && end.progress.at == 11 && end.progress.sent == 3);
+    IS(krbrelay_lane_receipt(&lane, 0, &receipt, other, KRBRELAY_OWN_FAULT, 80, &heard));
+    CHECK(heard == KRBRELAY_HEARD_AGAIN);
+    IS(krbrelay_lane_receipt(&lane, 0, &receipt, receipt.history, KRBRELAY_OWN_KNOWN, 80, &heard));
+    CHECK(heard == KRBRELAY_HEARD_DELIVERED);
+    IS(krbrelay_lane_receipt(&lane, 1, &receipt, other, KRBRELAY_OWN_KNOWN, 80, &heard));
+    CHECK(heard == KRBRELAY_HEARD_ENDED);
+    IS(krbrelay_lane_session(&lane, 1, &end));
+    CHECK(end.ended == KRBRELAY_ENDED_FORKED && end.done == 0);
+    IS(krbrelay_lane_sealed(&lane, 0, 2));
+    CHECK(turns_to(&lane, 90, 0, KRBRELAY_COMMAND_PUBLISH, 2));
+    krbrelay_lane_free(&lane);
+    CHECK(lane.count == 0 && has_no_turn(&lane, 90));
+    krbrelay_lane_free(&lane);
+}
+
+/* What a lane refuses, and an opening that waits until it is released; one that is stopped, and loaded again. */
+static void lanes_held(void)
+{
+    static const struct krbrelay_stored none = { .next = 3, .carried = 4 }, behind = { .next = 9, .carried = 4, .done = 5 };
+    static const struct krbrelay_receipt no_receipt;
+    struct krbrelay_lane lane = KRBRELAY_INIT;
+    uint32_t place = 99, heard = 99;
+    IS_NOT(krbrelay_lane_add(&lane, &none, 0, &place));
+    IS_NOT(krbrelay_lane_add(&lane, &behind, 0, &place));
+    CHECK(place == 99);
+    IS(krbrelay_lane_add(&lane, &THREE_STORED, 1, &place));
+    IS(krbrelay_lane_listed(&lane, 1, 7));
+    IS_NOT(krbrelay_lane_stop(&lane, 1));
+    IS_NOT(krbrelay_lane_reload(&lane, 0, &none, 0));
+    IS_NOT(krbrelay_lane_sealed(&lane, 0, UINT64_MAX - 2));
+    IS_NOT(krbrelay_lane_receipt(&lane, 0, &no_receipt, no_receipt.history, KRBRELAY_OWN_UNKNOWN, 0, &heard));
+    CHECK(heard == 99 && turns_to(&lane, 10, 0, KRBRELAY_COMMAND_HELD, 0) && has_no_turn(&lane, 10));
+    CHECK(krbrelay_lane_next_time(&lane) == 110 && turns_to(&lane, 110, 0, KRBRELAY_COMMAND_HELD, 0));
+    IS(krbrelay_lane_release(&lane, 0));
+    CHECK(turns_to(&lane, 120, 0, KRBRELAY_COMMAND_PUBLISH, 3));
+    IS(krbrelay_lane_listed(&lane, 0, 0));
+    CHECK(has_no_turn(&lane, 100000));
+    IS(krbrelay_lane_stop(&lane, 0));
+    IS(krbrelay_lane_listed(&lane, 1, 7));
+    IS(krbrelay_lane_reload(&lane, 0, &THREE_STORED, 0));
+    CHECK(turns_to(&lane, 100000, 0, KRBRELAY_COMMAND_PUBLISH, 3));
+    krbrelay_lane_free(&lane);
+}
+
 /* ---- a receiver */
 
 static uint32_t takes(struct krbrelay_receiving *r, const char *frame, struct krbrelay_seen seen)
@@ -448,6 +529,8 @@ int main(int argc, char **argv)
     RUN(flows());
     RUN(pauses());
     RUN(queues());
+    RUN(lanes());
+    RUN(lanes_held());
     RUN(receives());
     RUN(no_receivers());
     RUN(readings());

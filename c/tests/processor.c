@@ -125,6 +125,8 @@ static void sending_is_refused(struct krbrelay_sending *sending)
     static const struct krbrelay_head head;
     static const struct krbrelay_opening opening;
     static const uint8_t own[KRBRELAY_HISTORY_SIZE];
+    static const struct krbrelay_stored row;
+    struct krbrelay_lane lane = KRBRELAY_INIT;
     struct krbrelay_command command;
     uint64_t under_way = 0, room = 0;
     uint32_t told = 0, stands = 0;
@@ -137,6 +139,8 @@ static void sending_is_refused(struct krbrelay_sending *sending)
     CHECK(krbrelay_sending_serve(sending, 8, 0, &command) == KRBRELAY_PROCESSOR);
     CHECK(krbrelay_sending_state(sending, &under_way, &room, &told, &stands) == KRBRELAY_PROCESSOR);
     CHECK(krbrelay_judge(&head, &opening, &told) == KRBRELAY_PROCESSOR);
+    CHECK(krbrelay_lane_add(&lane, &row, 0, &told) == KRBRELAY_PROCESSOR);
+    CHECK(krbrelay_lane_listed(&lane, 1, 7) == KRBRELAY_PROCESSOR && lane.count == 0);
 }
 
 /* The ends of a carrier: one call of each kind. */

@@ -183,6 +183,23 @@ enum krbrelay_answer krbrelay_sending_state(const struct krbrelay_sending *sendi
     return krbrelay_proved_sending_state(sending, under_way, room, settled, stands);
 }
 
+enum krbrelay_answer krbrelay_lane_add(struct krbrelay_lane *handle,
+                                       const struct krbrelay_stored *row, uint32_t opens,
+                                       uint32_t *place)
+{
+    if (!krbrelay_is_supported())
+        return KRBRELAY_PROCESSOR;
+    return krbrelay_proved_lane_add(handle, row, opens, place);
+}
+
+enum krbrelay_answer krbrelay_lane_listed(struct krbrelay_lane *handle, uint32_t has_list,
+                                          uint64_t list)
+{
+    if (!krbrelay_is_supported())
+        return KRBRELAY_PROCESSOR;
+    return krbrelay_proved_lane_listed(handle, has_list, list);
+}
+
 enum krbrelay_answer krbrelay_judge(const struct krbrelay_head *head,
                                     const struct krbrelay_opening *opening, uint32_t *judged)
 {

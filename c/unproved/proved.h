@@ -49,6 +49,11 @@ enum krbrelay_answer krbrelay_proved_sending_serve(struct krbrelay_sending *send
 enum krbrelay_answer krbrelay_proved_sending_state(const struct krbrelay_sending *sending,
                                                    uint64_t *under_way, uint64_t *room,
                                                    uint32_t *settled, uint32_t *stands);
+enum krbrelay_answer krbrelay_proved_lane_add(struct krbrelay_lane *handle,
+                                              const struct krbrelay_stored *row, uint32_t opens,
+                                              uint32_t *place);
+enum krbrelay_answer krbrelay_proved_lane_listed(struct krbrelay_lane *handle, uint32_t has_list,
+                                                 uint64_t list);
 enum krbrelay_answer krbrelay_proved_judge(const struct krbrelay_head *head,
                                            const struct krbrelay_opening *opening,
                                            uint32_t *judged);

@@ -23,7 +23,8 @@ from typing import Any, Callable, NamedTuple, Optional, Tuple, Union
 from krbrelay.errors import check
 from krbrelay.library import (
     HISTORY_SIZE, CommandStruct, FlowStruct, HandleStruct, HeadStruct, OpeningStruct, PauseStruct,
-    ReadingStruct, ReceiptStruct, ReceivingStruct, RowStruct, SeenStruct, SendingStruct, library)
+    ReadingStruct, ReceiptStruct, ReceivingStruct, RowStruct, SeenStruct, SendingStruct, ServedStruct,
+    StoredStruct, library)
 from krbrelay.turns import Turns, called, in_turn
 from krbrelay.values import Bytes, bytes_of, flag, number_or_0, ranged
 
@@ -57,6 +58,8 @@ class Heard(enum.IntEnum):
     """All frames below `done` took effect: they may be deleted."""
     ENDED = 2
     """The session is stopped."""
+    AGAIN = 3
+    """Of a lane: nothing yet, since the own digest can't be read now. It is to be heard again."""
 
 
 class Stands(enum.IntEnum):
@@ -125,7 +128,20 @@ class Idle:
     """Nothing is to be done until something happens."""
 
 
+@dataclass(frozen=True)
+class Held:
+    """Of a lane: nothing is to be done until the session's opening is released."""
+
+
 Command = Union[Publish, Probe, Wake, Idle]
+
+
+class Served(NamedTuple):
+    """A session of a lane that is served: its place, what is to be done, and whether it counted for
+    another list than the shard has now. Then all that isn't done leaves again."""
+    place: int
+    command: Union[Command, Held]
+    is_moved: bool
 
 
 @dataclass(frozen=True)
@@ -266,6 +282,26 @@ def _free(free: Callable[..., Any], struct: HandleStruct) -> None:
 
 # ---- a sender
 
+def _command(told: CommandStruct) -> Command:
+    if told.kind == 1:
+        return Publish(told.number, told.count)
+    if told.kind == 2:
+        return Probe(told.number, bool(told.opening))
+    return Wake(told.at) if told.kind == 3 else Idle()
+
+
+def _stored(struct: SendingStruct) -> Stored:
+    progress = struct.progress
+    return Stored(progress.next, progress.carried, progress.at, struct.done, struct.list)
+
+
+def _struct_of(stored: Stored) -> StoredStruct:
+    if not stored.done <= stored.carried <= stored.next:
+        raise ValueError(f"{stored}: done is at most carried, and that at most next")
+    return StoredStruct(*(_number(name, getattr(stored, name)) for name in
+                          ("next", "carried", "at", "done", "list")))
+
+
 class Sending(Turns):
     """One session's end at a sender: how far its frames are carried, below which number they took
     effect, and what is to be done. The caller has the frames, in an outbox.
@@ -278,11 +314,9 @@ class Sending(Turns):
         super().__init__()
         self._library, self._struct = library(), SendingStruct()
         self._at = byref(self._struct)
-        if not stored.done <= stored.carried <= stored.next:
-            raise ValueError(f"{stored}: done is at most carried, and that at most next")
-        check(called(self._library.krbrelay_sending_load, self._at,
-                     *(_number(name, getattr(stored, name)) for name in
-                       ("next", "carried", "at", "done", "list")), _number("now", now)))
+        of = _struct_of(stored)
+        check(called(self._library.krbrelay_sending_load, self._at, of.next, of.carried, of.at, of.done,
+                     of.list, _number("now", now)))
 
     @in_turn
     def sealed(self, count: int) -> None:
@@ -334,11 +368,7 @@ class Sending(Turns):
         told = CommandStruct()
         check(self._library.krbrelay_sending_serve(
             self._at, _number("the room", room), _number("now", now), byref(told)))
-        if told.kind == 1:
-            return Publish(told.number, told.count)
-        if told.kind == 2:
-            return Probe(told.number, bool(told.opening))
-        return Wake(told.at) if told.kind == 3 else Idle()
+        return _command(told)
 
     def _state(self) -> Tuple[int, int, bool, Optional[Stands]]:
         under_way, room, settled, stands = c_uint64(), c_uint64(), c_uint32(), c_uint32()
@@ -388,12 +418,108 @@ class Sending(Turns):
     @in_turn
     def stored(self) -> Stored:
         """What to store of it."""
-        progress = self._struct.progress
-        return Stored(progress.next, progress.carried, progress.at, self._struct.done,
-                      self._struct.list)
+        return _stored(self._struct)
 
     def __eq__(self, other: object) -> bool:
         return isinstance(other, Sending) and _is_same(self, other)
+
+
+class Lane(Turns):
+    """A shard at a sender with all its sessions: which is served, and what is to be done of it. A
+    session is its place, which `add` tells; IndexError where the lane has none there."""
+
+    def __init__(self) -> None:
+        super().__init__()
+        self._library, self._struct, self._count = library(), HandleStruct(), 0
+        weakref.finalize(self, _free, self._library.krbrelay_lane_free, self._struct)
+
+    def _at(self, place: int) -> Tuple[Any, int]:
+        if not 0 <= ranged("the place", place, 0, 2**32 - 1) < self._count:
+            raise IndexError(f"there is no session at {place}: the lane has {self._count}")
+        return byref(self._struct), place
+
+    @in_turn
+    def add(self, stored: Stored, opens: bool = False) -> int:
+        """One session more, of which the outbox has this. The first frame of one that opens is its
+        opening, which leaves only after a release. ValueError, TypeError, MemoryError."""
+        place = c_uint32()
+        check(called(self._library.krbrelay_lane_add, byref(self._struct), byref(_struct_of(stored)),
+                     flag("opens", opens), byref(place)))
+        self._count += 1
+        return place.value
+
+    @in_turn
+    def reload(self, place: int, stored: Stored, opens: bool = False) -> None:
+        """The outbox has this of the session now."""
+        check(self._library.krbrelay_lane_reload(*self._at(place), byref(_struct_of(stored)),
+                                                 flag("opens", opens)))
+
+    @in_turn
+    def stored(self, place: int) -> Stored:
+        """What to store of the session."""
+        struct = SendingStruct()
+        check(self._library.krbrelay_lane_session(*self._at(place), byref(struct)))
+        return _stored(struct)
+
+    @in_turn
+    def turn(self, now: int) -> Optional[Served]:
+        """Which session is served next, if one is."""
+        told = ServedStruct()
+        if not self._library.krbrelay_lane_turn(byref(self._struct), _number("now", now), byref(told)):
+            return None
+        command = Held() if told.command.kind == 4 else _command(told.command)
+        return Served(told.place, command, bool(told.is_moved))
+
+    @property
+    @in_turn
+    def next_time(self) -> int:
+        """When a session has a turn again, if nothing happens before: NEVER, if none has."""
+        found: int = self._library.krbrelay_lane_next_time(byref(self._struct))
+        return found
+
+    @in_turn
+    def sealed(self, place: int, count: int) -> None:
+        """So many frames more of the session are sealed and stored. ValueError if they have no numbers."""
+        check(self._library.krbrelay_lane_sealed(*self._at(place), _number("the count", count)))
+
+    @in_turn
+    def confirmed(self, place: int, number: int, offset: int, now: int) -> bool:
+        """A copy of the frame of this number stands at this offset of the list: whether it counts."""
+        counts = c_uint32()
+        check(self._library.krbrelay_lane_confirmed(
+            *self._at(place), _number("the number", number), _number("the offset", offset),
+            _number("now", now), byref(counts)))
+        return bool(counts.value)
+
+    @in_turn
+    def receipt(self, place: int, receipt: Receipt, own: Optional[Bytes], now: int) -> Heard:
+        """A receiver says what took effect of the session, and what it asks for. `own` is the digest of
+        the own frames below the receipt's number, or None while it can't be read: then a receipt that
+        has to be compared is to be heard again."""
+        struct = ReceiptStruct(_number("the number", receipt.number), _digest(receipt.history),
+                               Asks(receipt.asks))
+        heard = c_uint32()
+        check(self._library.krbrelay_lane_receipt(
+            *self._at(place), byref(struct), _digest(receipt.history if own is None else own),
+            3 if own is None else 1, _number("now", now), byref(heard)))
+        return Heard(heard.value)
+
+    @in_turn
+    def stop(self, place: int) -> None:
+        """Nothing of the session leaves any more, until it is loaded again."""
+        check(self._library.krbrelay_lane_stop(*self._at(place)))
+
+    @in_turn
+    def release(self, place: int) -> None:
+        """The session's opening may leave in its next turn, once."""
+        check(self._library.krbrelay_lane_release(*self._at(place)))
+
+    @in_turn
+    def listed(self, list_now: Optional[int]) -> None:
+        """The shard has this list now, or none can be had. If it is another one, all sessions have
+        their turn. MemoryError."""
+        check(called(self._library.krbrelay_lane_listed, byref(self._struct), list_now is not None,
+                     _number("the list", number_or_0(list_now))))
 
 
 class Flow(Turns):

@@ -42,8 +42,8 @@ class LibraryError(OSError):
 # ---- the structs of krbrelay.h
 
 class HandleStruct(ctypes.Structure):
-    """struct krbrelay_sealer, krbrelay_opener, krbrelay_receiver, krbrelay_peer and krbrelay_queue,
-    which are alike."""
+    """struct krbrelay_sealer, krbrelay_opener, krbrelay_receiver, krbrelay_peer, krbrelay_lane and
+    krbrelay_queue, which are alike."""
     _fields_ = [("at", c_void_p), ("count", c_size_t)]
 
 
@@ -148,6 +148,17 @@ class FlowStruct(ctypes.Structure):
     """struct krbrelay_flow."""
     _fields_ = [("list", c_uint64), ("under_way", c_uint64), ("has_list", c_uint32),
                 ("reserved", c_uint32)]
+
+
+class StoredStruct(ctypes.Structure):
+    """struct krbrelay_stored."""
+    _fields_ = [("next", c_uint64), ("carried", c_uint64), ("at", c_uint64), ("done", c_uint64),
+                ("list", c_uint64)]
+
+
+class ServedStruct(ctypes.Structure):
+    """struct krbrelay_served."""
+    _fields_ = [("command", CommandStruct), ("place", c_uint32), ("is_moved", c_uint32)]
 
 
 class RowStruct(ctypes.Structure):
@@ -284,6 +295,20 @@ CALLS: Dict[str, Tuple[Any, List[Any]]] = {
     "krbrelay_queue_serve": (c_uint32, [_HANDLE, _FLAG]),
     "krbrelay_queue_len": (c_size_t, [_HANDLE]),
     "krbrelay_queue_free": (None, [_HANDLE]),
+    "krbrelay_lane_add": (c_uint32, [_HANDLE, POINTER(StoredStruct), c_uint32, _FLAG]),
+    "krbrelay_lane_reload": (c_uint32, [_HANDLE, c_uint32, POINTER(StoredStruct), c_uint32]),
+    "krbrelay_lane_session": (c_uint32, [_HANDLE, c_uint32, _SENDING]),
+    "krbrelay_lane_turn": (c_uint32, [_HANDLE, c_uint64, POINTER(ServedStruct)]),
+    "krbrelay_lane_next_time": (c_uint64, [_HANDLE]),
+    "krbrelay_lane_sealed": (c_uint32, [_HANDLE, c_uint32, c_uint64]),
+    "krbrelay_lane_confirmed":
+        (c_uint32, [_HANDLE, c_uint32, c_uint64, c_uint64, c_uint64, _FLAG]),
+    "krbrelay_lane_receipt":
+        (c_uint32, [_HANDLE, c_uint32, POINTER(ReceiptStruct), _HISTORY, c_uint32, c_uint64, _FLAG]),
+    "krbrelay_lane_stop": (c_uint32, [_HANDLE, c_uint32]),
+    "krbrelay_lane_release": (c_uint32, [_HANDLE, c_uint32]),
+    "krbrelay_lane_listed": (c_uint32, [_HANDLE, c_uint32, c_uint64]),
+    "krbrelay_lane_free": (None, [_HANDLE]),
     "krbrelay_message_header": (c_uint32, [*_BYTES, POINTER(HeaderStruct)]),
     "krbrelay_check_session": (c_uint32, [POINTER(SessionStruct)]),
     "krbrelay_check_expect": (c_uint32, [POINTER(ExpectStruct)]),

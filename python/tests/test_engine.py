@@ -4,8 +4,9 @@ import unittest
 
 from krbrelay import History
 from krbrelay.engine import (
-    NEVER, Asks, Ended, Flow, Head, Heard, Idle, Judged, Opening, Outcome, Pause, Probe, Publish,
-    Queue, Read, Reading, Receipt, Receiving, Row, Sending, Spot, Stands, Stored, Wake, judge)
+    NEVER, Asks, Ended, Flow, Head, Heard, Held, Idle, Judged, Lane, Opening, Outcome, Pause, Probe,
+    Publish, Queue, Read, Reading, Receipt, Receiving, Row, Sending, Served, Spot, Stands, Stored,
+    Wake, judge)
 
 OWN, OTHER, NONE = bytes([1]) * 20, bytes([2]) * 20, bytes(20)
 
@@ -61,6 +62,40 @@ class Senders(unittest.TestCase):
             with self.assertRaises(TypeError):
                 call("7")
         self.assertEqual(sending, Sending(Stored(3), 0))
+
+    def test_a_shard_with_its_sessions(self):
+        lane, receipt = Lane(), Receipt(3, OWN)
+        self.assertEqual((lane.add(Stored(3, list=7)), lane.add(Stored(3, list=7), opens=True)), (0, 1))
+        self.assertEqual((lane.turn(50), lane.next_time), (None, NEVER))
+        lane.listed(8)
+        self.assertEqual(lane.turn(60), Served(0, Publish(0, 3), True))
+        self.assertEqual(lane.turn(60), Served(1, Held(), True))
+        self.assertEqual((lane.turn(60), lane.turn(60), lane.next_time),
+                         (Served(0, Wake(2_060), False), None, 160))
+        lane.release(1)
+        self.assertEqual(lane.turn(60), Served(1, Publish(0, 3), False))
+        self.assertEqual([lane.confirmed(0, *it, 70) for it in ((0, 11), (2, 12))], [True, False])
+        self.assertEqual(lane.stored(0), Stored(3, 1, 11, 0, 8))
+        self.assertEqual([lane.receipt(0, receipt, own, 80) for own in (None, receipt.history)],
+                         [Heard.AGAIN, Heard.DELIVERED])
+        self.assertEqual(lane.receipt(1, receipt, OTHER, 80), Heard.ENDED)
+        lane.sealed(0, 2)
+        self.assertEqual([lane.turn(90) for _ in range(4)],
+                         [Served(1, Idle(), False), Served(0, Publish(3, 2), False),
+                          Served(0, Wake(2_090), False), None])
+        lane.listed(None)
+        self.assertEqual(lane.turn(100_000), None)
+        lane.stop(0)
+        lane.listed(8)
+        self.assertEqual(lane.turn(100_000), Served(0, Idle(), False))
+        lane.reload(0, Stored(5, 3, 12, 3, 8))
+        self.assertEqual(lane.turn(100_000), Served(0, Publish(3, 2), False))
+        for wrong in (lambda: lane.stop(2), lambda: lane.stored(2)):
+            with self.assertRaises(IndexError):
+                wrong()
+        for wrong in (lambda: lane.add(Stored(3, 4)), lambda: lane.sealed(0, NEVER), lambda: lane.stop(-1)):
+            with self.assertRaises(ValueError):
+                wrong()
 
     def test_a_shard(self):
         flow = Flow()

@@ -305,6 +305,7 @@ static struct krbrelay_reading reading;
 static struct krbrelay_flow flow;
 static struct krbrelay_pause pause;
 static struct krbrelay_queue none_wait;
+static struct krbrelay_lane no_sessions;
 
 static uint32_t sending_load(void)
 {
@@ -386,6 +387,56 @@ static uint32_t queue_ready(void)
     return answer;
 }
 
+/* Of lanes of their own, which ask for their blocks. */
+static uint32_t lane_add(void)
+{
+    static const struct krbrelay_stored row = { .next = 9, .carried = 7 };
+    struct krbrelay_lane lane = KRBRELAY_INIT;
+    uint32_t place, answer = krbrelay_lane_add(&lane, &row, 0, &place);
+    krbrelay_lane_free(&lane);
+    return answer;
+}
+
+static uint32_t lane_listed(void)
+{
+    struct krbrelay_lane lane = KRBRELAY_INIT;
+    uint32_t answer = krbrelay_lane_listed(&lane, 1, NUMBER);
+    krbrelay_lane_free(&lane);
+    return answer;
+}
+
+/* Of one without a session: they refuse, and ask for nothing. */
+static uint32_t refuses(enum krbrelay_answer answer) { return answer == KRBRELAY_ARGUMENT ? KRBRELAY_OK : KRBRELAY_EMPTY; }
+static uint32_t lane_session(void) { return refuses(krbrelay_lane_session(&no_sessions, 0, &sending)); }
+static uint32_t lane_sealed(void) { return refuses(krbrelay_lane_sealed(&no_sessions, 0, 1)); }
+static uint32_t lane_confirmed(void) { return refuses(krbrelay_lane_confirmed(&no_sessions, 0, 0, 1, 0, &told.kind)); }
+static uint32_t lane_stop(void) { return refuses(krbrelay_lane_stop(&no_sessions, 0)); }
+static uint32_t lane_release(void) { return refuses(krbrelay_lane_release(&no_sessions, 0)); }
+static uint32_t lane_free(void) { krbrelay_lane_free(&no_sessions); return KRBRELAY_OK; }
+
+static uint32_t lane_reload(void)
+{
+    static const struct krbrelay_stored row;
+    return refuses(krbrelay_lane_reload(&no_sessions, 0, &row, 0));
+}
+
+static uint32_t lane_receipt(void)
+{
+    static const struct krbrelay_receipt it = { .asks = KRBRELAY_ASKS_NOTHING };
+    return refuses(krbrelay_lane_receipt(&no_sessions, 0, &it, it.history, KRBRELAY_OWN_UNKNOWN, 0, &told.kind));
+}
+
+static uint32_t lane_turn(void)
+{
+    struct krbrelay_served served;
+    return krbrelay_lane_turn(&no_sessions, 0, &served) == 0 ? KRBRELAY_OK : KRBRELAY_ARGUMENT;
+}
+
+static uint32_t lane_next_time(void)
+{
+    return krbrelay_lane_next_time(&no_sessions) == UINT64_MAX ? KRBRELAY_OK : KRBRELAY_ARGUMENT;
+}
+
 static uint32_t queue_serve(void) { return krbrelay_queue_serve(&none_wait, &told.kind); }
 static uint32_t queue_len(void) { return krbrelay_queue_len(&none_wait) == 0 ? KRBRELAY_OK : KRBRELAY_ARGUMENT; }
 static uint32_t queue_free(void) { krbrelay_queue_free(&none_wait); return KRBRELAY_OK; }
@@ -443,6 +494,12 @@ struct call calls[] = {
     NONE(judge, NO_HANDLE), NONE(pause_begin, NO_HANDLE), NONE(pause_is_over, NO_HANDLE),
     NONE(pause_end, NO_HANDLE), NONE(pause_grow, NO_HANDLE), NONE(queue_serve, NO_HANDLE),
     NONE(queue_len, NO_HANDLE), NONE(queue_free, NO_HANDLE),
+    ROW(lane_add, KEEPS_NOTHING, NO_HANDLE, OF_DATA, 0, 0, 0),
+    ROW(lane_listed, KEEPS_NOTHING, NO_HANDLE, OF_DATA, 0, 0, 0),
+    NONE(lane_reload, NO_HANDLE), NONE(lane_session, NO_HANDLE), NONE(lane_turn, NO_HANDLE),
+    NONE(lane_next_time, NO_HANDLE), NONE(lane_sealed, NO_HANDLE), NONE(lane_confirmed, NO_HANDLE),
+    NONE(lane_receipt, NO_HANDLE), NONE(lane_stop, NO_HANDLE), NONE(lane_release, NO_HANDLE),
+    NONE(lane_free, NO_HANDLE),
     ROW(queue_ready, KEEPS_NOTHING, NO_HANDLE, OF_DATA, 0, 0, 0),
 };
 const int call_count = sizeof calls / sizeof *calls;

@@ -72,9 +72,10 @@ class Library:
         self.kinds = {name: self.kind(*it) for name, it in KINDS.items()}
         self.asks = self.answers(lambda asks: self.hear({7: asks})[0])
         self.ended = self.answers(lambda ended: self.serve({ENDED: ended})[0])
+        self.owns = self.answers(lambda own: self.own(own)[0])
         self.results = {
-            "command_kind": {name: self.serve(it)[1] for name, it in COMMANDS.items()},
-            "heard": {name: self.hear({7: 1, **it})[1] for name, it in HEARD.items()},
+            "command_kind": {**{name: self.serve(it)[1] for name, it in COMMANDS.items()}, "HELD": self.held()},
+            "heard": {**{name: self.hear({7: 1, **it})[1] for name, it in HEARD.items()}, "AGAIN": self.own(3)[1]},
             "stands": {name: self.stands(it) for name, it in STANDS.items()},
             "read": {name: self.read(*it) for name, it in READS.items()},
             "judged": {name: self.judge(*it) for name, it in JUDGED.items()}}
@@ -125,6 +126,28 @@ class Library:
         heard, sending = numbers_of(), with_words({WINDOW: 1, NEXT: 1})
         return self.calls.krbrelay_sending_receipt(
             sending, with_words(words), numbers_of(), ctypes.c_uint64(9), heard), heard[0]
+
+    def lane(self, opens: int) -> ctypes.Array:
+        """A shard at a sender, with a list, and one session that has a frame."""
+        lane = numbers_of()
+        self.calls.krbrelay_lane_add(lane, numbers_of(1), opens, numbers_of())
+        self.calls.krbrelay_lane_listed(lane, 1, ctypes.c_uint64(0))
+        return lane
+
+    def held(self) -> int:
+        """The kind of what is to be done of a session whose opening wasn't released."""
+        lane, served = self.lane(1), numbers_of()
+        self.calls.krbrelay_lane_turn(lane, ctypes.c_uint64(9), served)
+        self.calls.krbrelay_lane_free(lane)
+        return served[6]
+
+    def own(self, own: int) -> Tuple[int, int]:
+        """The answer to a receipt of which the own digest is such a one, and what is heard."""
+        lane, heard = self.lane(0), numbers_of()
+        answer = self.calls.krbrelay_lane_receipt(lane, 0, with_words({0: 1, 7: 1}), numbers_of(), own, ctypes.c_uint64(9),
+                                                  heard)
+        self.calls.krbrelay_lane_free(lane)
+        return answer, heard[0]
 
     def stands(self, words: Dict[int, int]) -> int:
         told, other = numbers_of(), numbers_of()
@@ -212,6 +235,8 @@ class Compared:
         self.taken("ended", self.numbers("ended").values(), self.library.ended, "ARGUMENT")
         names = {it: self.numbers(it, it.upper() + "_") for it in ("ended", "stands", "asks")}
         self.same("asks", names["asks"], {"NOTHING": 1, "MISSING": 2, "REFUSED": 3}, "all")
+        self.taken("own", self.numbers("own").values(), self.library.owns, "ARGUMENT")
+        self.same("own", self.numbers("own", "OWN_"), {"KNOWN": 1, "UNKNOWN": 2, "FAULT": 3}, "all")
         self.same("ended", {names["ended"].get(it) for it in ("OLDER", "FORKED")},
                   {names["stands"].get(it) for it in ("OLDER", "FORKED")}, "an end that stands")
         for enum, theirs in self.library.results.items():

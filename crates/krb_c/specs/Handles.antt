@@ -12,6 +12,8 @@ use Rattle.krb_c.specs.Held.{owns}
 use Rattle.krb_structs.specs.contracts.lane_receiver.LaneReceiver.{the_row as receiver_row}
 use Rattle.krb_structs.specs.contracts.peer.Peer.{the_row as peer_row}
 use Rattle.krb_structs.specs.contracts.any_sealer.AnySealer.{the_row as sealer_row}
+use Rattle.krb_c.specs.declared.held_lane.HeldLane.{HeldLane}
+use Rattle.krb_c.specs.contracts.held_lane.HeldLane.{the_row as lane_row}
 use Rattle.krb_c.specs.declared.held_queue.HeldQueue.{HeldQueue}
 use Rattle.krb_c.specs.contracts.held_queue.HeldQueue.{the_row as queue_row}
 use Rattle.krb_structs.specs.contracts.wipeable_opener.WipeableOpener.{the_row as opener_row}
@@ -45,3 +47,9 @@ owns_queue = owns queue_row
 
 abbrev pub queue_coded : Coded (Option HeldQueue)
 queue_coded = coded_option queue_row.coded
+
+abbrev pub owns_lane : Ptr → ℕ → Option HeldLane → Fml
+owns_lane = owns lane_row
+
+abbrev pub lane_coded : Coded (Option HeldLane)
+lane_coded = coded_option lane_row.coded

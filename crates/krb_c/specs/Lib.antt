@@ -1,6 +1,7 @@
 pub mod Answers
 pub mod Exports
 pub mod Handles
+pub mod Lanes
 pub mod Queue
 pub mod Peers
 pub mod Many

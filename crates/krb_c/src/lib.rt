@@ -6,7 +6,7 @@
 //! answer is that of the first condition that doesn't hold. The progress of a session's frames
 //! ([`krb_carry::Progress`]) and a window ([`krb_window::Window`]) have no handle: they are numbers of
 //! the caller's. So is all that both ends of a
-//! carrier keep but the queue (krb_engine, over the structs of krb_carrier_structs). Nor has the history of
+//! carrier keep but the queue and a sender's shard (krb_engine and krb_sender, over the structs of krb_carrier_structs). Nor has the history of
 //! a session ([`krb_carry::with_frame`]) a handle, which is bytes of the caller's.
 //!
 //! A value on the heap, or nothing, as C holds it: a pointer and a count, of which `krb_c` makes a struct for
@@ -16,8 +16,11 @@
 mod field_calls;
 mod handle;
 mod held;
+mod held_lane;
 mod held_queue;
 mod history_calls;
+mod lane_calls;
+mod lane_handle;
 mod many_calls;
 mod message_calls;
 mod opener_calls;

@@ -2,6 +2,7 @@ pub mod Numbers
 pub mod Pause
 pub mod Progress
 pub mod Command
+pub mod Lane
 pub mod Receipt
 pub mod Sending
 pub mod Receiving

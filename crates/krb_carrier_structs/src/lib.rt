@@ -1,12 +1,13 @@
 //! What both ends of a carrier keep, as flat structs of the caller's: what `krb_c` exports under C's
 //! names.
 //!
-//! Each struct tells a value of krb_carry, krb_engine or krb_engine, or none. A function that reads one
+//! Each struct tells a value of krb_carry, krb_engine or krb_sender, or none. A function that reads one
 //! answers the value, or `None` where the numbers tell none; one that makes a struct makes it of the value.
 //! An option is a flag beside its value, or a number that no value has. Any flag but 0 says yes.
 #![tactic(auto)]
 
 mod command;
+mod lane;
 mod numbers;
 mod pause;
 mod progress;
@@ -17,6 +18,7 @@ mod shards;
 mod stream;
 
 pub use command::KrbCommand;
+pub use lane::{KrbServed, KrbStored, number_of_lane_heard, own_of};
 pub use numbers::{
     number_of_heard, number_of_judged, number_of_outcome, number_of_read, number_of_stands,
 };
