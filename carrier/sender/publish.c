@@ -1,20 +1,17 @@
-/* Does what krb_engine says of each session: publishes frames, and a session's last one again, wakes at a time. A
- * session whose frame the carrier won't have is stopped, and the others go on. */
+/* Does what krb_sender says of each session: publishes frames, and a session's last one again. A session whose frame the
+ * carrier won't have is stopped, and the others go on. */
 #include "clock.h"
 #include "log.h"
 #include "sender.h"
 #include "text.h"
 
-#include <stdlib.h>
-
 enum {
     COUNTED = 512,  /* confirmations that are taken at once */
     STORED = 512,   /* frames of a session that are stored, and not carried, at most: one sync stores many. How
-                     * many of them leave is krb_engine's */
-    SERVED = 256,   /* services of one turn, */
+                     * many of them leave is krb_sender's */
+    SERVED = 256,   /* services of a shard in one turn, */
     LEFT = 1024,    /* and frames that leave in one */
-    HELD = 100,     /* milliseconds until a session that is held is looked at again, */
-    AWAY = 10000    /* and after which a shard whose list can't be had is told */
+    AWAY = 10000    /* milliseconds after which a shard whose list can't be had is told */
 };
 
 /* ---- What is counted */
@@ -32,33 +29,43 @@ static void count(uint64_t *of_lane, uint64_t *of_all, uint64_t *of, uint64_t no
     *of = now;
 }
 
-/* What is counted of a session is counted anew: 1 if there is something to do. */
-static int count_anew(struct sender *s, struct sending *it)
+int publish_has(const struct sending *it, enum krbrelay_answer answer)
+{
+    if (answer != KRBRELAY_OK)
+        log_fact(LEVEL_ERROR, "progress_unknown", field_text("session", it->of.name),
+                 field_number("next", it->end.progress.next), field_number("sealed", it->sealed));
+    return answer == KRBRELAY_OK;
+}
+
+int publish_look(struct sender *s, struct sending *it)
+{
+    return publish_has(it, krbrelay_lane_session(&s->lanes[it->lane].ends, it->place, &it->end)) ? 0 : -1;
+}
+
+/* What is counted of a session is counted anew. */
+static void count_anew(struct sender *s, struct sending *it)
 {
     const struct krbrelay_progress *progress = &it->end.progress;
     struct lane *lane = &s->lanes[it->lane];
-    uint64_t under_way = 0, room = 0, stored = progress->next - progress->carried;
-    uint32_t settled = 1, stands = KRBRELAY_STANDS_NOT;
-    if (krbrelay_sending_state(&it->end, &under_way, &room, &settled, &stands) != KRBRELAY_OK
-        || krbrelay_flow_moved(&lane->flow, it->under_way, under_way) != KRBRELAY_OK)
-        return 0; /* never: the numbers are the engine's own */
-    it->under_way = under_way;
+    uint64_t stored, undone;
+    if (publish_look(s, it) != 0)
+        return; /* never: each session has its place */
+    stored = progress->next - progress->carried;
+    undone = it->stopped_at != 1 ? progress->next - it->end.done : 0;
     it->room = it->stopped_at == 1 || it->is_deaf || stored > STORED ? 0 : STORED - stored;
-    count(&lane->uncarried, &s->uncarried, &it->uncarried, leaves(it) ? progress->next - progress->carried : 0);
+    lane->undone = lane->undone - it->undone + undone;
+    it->undone = undone;
+    count(&lane->uncarried, &s->uncarried, &it->uncarried, leaves(it) ? stored : 0);
     count(&lane->unconfirmed, &s->unconfirmed, &it->unconfirmed, leaves(it) ? progress->sent - progress->carried : 0);
     count(&lane->unreceipted, &s->unreceipted, &it->unreceipted,
           it->stopped_at != 1 ? progress->carried - it->end.done : 0);
-    return !settled && it->stopped_at != 1;
 }
 
 void publish_note(struct sender *s, struct sending *it)
 {
-    struct lane *lane = &s->lanes[it->lane];
-    int has_work = count_anew(s, it);
+    count_anew(s, it);
     if (it->has_texts && it->room >= STORED / 2)
         list_add(&s->sealable, it, &it->is_sealable);
-    if (has_work && krbrelay_queue_ready(&lane->queue, it->place) != KRBRELAY_OK)
-        log_system("out_of_memory", "sender"); /* its next event makes it ready */
 }
 
 void publish_stop(struct sender *s, struct sending *it)
@@ -66,60 +73,10 @@ void publish_stop(struct sender *s, struct sending *it)
     if (it->stopped_at != 1)
         s->untold.at[s->untold.count++] = it;
     it->stopped_at = 1;
-    if (krbrelay_sending_reconnected(&it->end) != KRBRELAY_OK) /* its frames give up their room in the shard */
-        log_fact(LEVEL_ERROR, "progress_unknown", field_text("session", it->of.name));
+    (void)publish_has(it, krbrelay_lane_stop(&s->lanes[it->lane].ends, it->place));
     s->held -= it->is_held != 0;
     it->is_held = 0;
-    (void)count_anew(s, it); /* there is nothing to do any more */
-}
-
-/* ---- Times: a heap, whose first is the next. A session has one that counts, and perhaps older ones. */
-
-static void swap(struct wake *one, struct wake *other)
-{
-    struct wake kept = *one;
-    *one = *other;
-    *other = kept;
-}
-
-/* Looks at the session at this time, or sooner. */
-static void wake_at(struct sender *s, struct sending *it, uint64_t at)
-{
-    size_t i = s->wake_count;
-    if (at >= it->wakes)
-        return;
-    if (s->wake_count == s->wake_room) {
-        size_t room = 2 * s->wake_room + 64;
-        struct wake *more = realloc(s->wakes, room * sizeof *more);
-        if (more == NULL) {
-            log_system("out_of_memory", "sender"); /* its next event looks at it */
-            return;
-        }
-        s->wakes = more;
-        s->wake_room = room;
-    }
-    it->wakes = at;
-    s->wakes[s->wake_count++] = (struct wake){ at, it };
-    for (; i > 0 && s->wakes[(i - 1) / 2].at > at; i = (i - 1) / 2)
-        swap(&s->wakes[i], &s->wakes[(i - 1) / 2]);
-}
-
-/* Takes the first. */
-static struct wake first_wake(struct sender *s)
-{
-    struct wake first = s->wakes[0];
-    size_t i = 0, least = 0;
-    s->wakes[0] = s->wakes[--s->wake_count];
-    do {
-        size_t left = 2 * i + 1;
-        swap(&s->wakes[i], &s->wakes[least]);
-        i = least;
-        if (left < s->wake_count && s->wakes[left].at < s->wakes[least].at)
-            least = left;
-        if (left + 1 < s->wake_count && s->wakes[left + 1].at < s->wakes[least].at)
-            least = left + 1;
-    } while (least != i);
-    return first;
+    count_anew(s, it); /* there is nothing to do any more */
 }
 
 /* ---- What leaves */
@@ -196,60 +153,49 @@ static void publish_frames(struct sender *s, struct sending *it, uint64_t from, 
         note_missing(s, it, from);
 }
 
-/* Does what the engine says; how many frames left. */
+/* Does what the lane says; how many frames left. */
 static uint64_t perform(struct sender *s, struct sending *it, const struct krbrelay_command *command)
 {
-    uint64_t probed = it->end.progress.carried;
     switch (command->kind) {
     case KRBRELAY_COMMAND_PUBLISH:
         s->again += command->number < it->left ? it->left - command->number : 0;
         it->left = command->number + command->count > it->left ? command->number + command->count : it->left;
         publish_frames(s, it, command->number, command->count);
-        wake_at(s, it, krbrelay_pause_end(&it->end.again));
         return command->count;
     case KRBRELAY_COMMAND_PROBE:
         s->again++;
         log_fact(LEVEL_WARNING, "receipts_missing", field_text("session", it->of.name),
                  field_number("shard", it->of.shard), field_number("done", it->end.done),
-                 field_number("carried", probed),
+                 field_number("carried", it->end.progress.carried),
                  field_text("text", "no receipt came: the last frame is published again"));
         if (command->opening && it->begun != NULL && command->number > 0)
             (void)publish_opening(s, it); /* what isn't taken is probed again */
         publish_frames(s, it, command->number, 1);
-        wake_at(s, it, krbrelay_pause_end(&it->end.probe));
         return 1;
-    case KRBRELAY_COMMAND_WAKE:
-        wake_at(s, it, command->at);
-        return 0;
     default:
-        return 0;
+        return 0; /* the lane knows when it is looked at again */
     }
 }
 
 /* ---- Whose turn it is */
 
-/* Whether a session's opening can't leave now: there is no ticket, or the session of its stream
- * before it isn't carried, whose close has to come before. Nothing of a session whose row isn't stored leaves. */
-static int hold(struct sender *s, struct sending *it)
+/* A session's opening leaves in its next turn, but where there is no ticket, or the session of its stream before it isn't
+ * carried, whose close has to come before. Nothing of a session whose row isn't stored leaves. */
+static void release(struct sender *s, struct sending *it)
 {
-    int is_held = it->end.progress.sent == 0
-                  && (!tickets_have(s->tickets) || sender_is_after(s, it));
+    int is_held = !tickets_have(s->tickets) || sender_is_after(s, it);
     s->held += (size_t)(is_held != 0) - (size_t)(it->is_held != 0);
     it->is_held = is_held;
-    if (is_held)
-        wake_at(s, it, milliseconds() + HELD);
-    return is_held || !it->is_stored;
+    if (!is_held && it->is_stored)
+        (void)publish_has(it, krbrelay_lane_release(&s->lanes[it->lane].ends, it->place));
+    count_anew(s, it);
 }
 
-/* The session's shard has this list now. If it had another one, all that isn't done leaves again. */
-static void tell_list(struct sender *s, struct sending *it, const struct lane *lane)
+/* Its shard had another list before: all that isn't done leaves again. */
+static void note_moved(struct sender *s, struct sending *it)
 {
-    uint64_t before = it->end.list;
-    uint32_t other = 0;
-    if (krbrelay_sending_listed(&it->end, lane->flow.list, &other) != KRBRELAY_OK || !other)
-        return;
     list_add(&s->dirty, it, &it->is_dirty);
-    if (before != 0 || it->kept.shard != (int32_t)it->of.shard)
+    if (it->end.list != 0 || it->kept.shard != (int32_t)it->of.shard)
         log_fact(LEVEL_WARNING, "session_elsewhere", field_text("session", it->of.name),
                  field_number("shard", it->of.shard),
                  field_text("text", "its shard is another list than before: what has no receipt is"
@@ -257,42 +203,30 @@ static void tell_list(struct sender *s, struct sending *it, const struct lane *l
 }
 
 /* One service of a session: how many frames left. */
-static uint64_t serve(struct sender *s, struct sending *it)
+static uint64_t serve(struct sender *s, struct sending *it, const struct krbrelay_served *served)
 {
-    struct lane *lane = &s->lanes[it->lane];
-    struct krbrelay_command command = { .kind = KRBRELAY_COMMAND_IDLE };
-    uint64_t room = 0, left;
-    int has_more;
-    if (it->stopped_at == 1 || !lane->flow.has_list)
-        return 0; /* once it has one, all its sessions have their turn */
-    if (it->begun != NULL && hold(s, it)) {
-        (void)count_anew(s, it); /* it waits */
+    uint64_t left;
+    if (served->is_moved)
+        note_moved(s, it);
+    if (served->command.kind == KRBRELAY_COMMAND_HELD) {
+        release(s, it);
         return 0;
     }
-    tell_list(s, it, lane);
-    if (krbrelay_flow_room(&lane->flow, &room) != KRBRELAY_OK
-        || krbrelay_sending_serve(&it->end, room, milliseconds(), &command) != KRBRELAY_OK)
-        return 0; /* never: the numbers are the engine's own */
-    left = perform(s, it, &command);
-    has_more = count_anew(s, it) && left > 0;
-    if (has_more && krbrelay_queue_ready(&lane->queue, it->place) != KRBRELAY_OK)
-        log_system("out_of_memory", "sender"); /* its time comes */
+    left = perform(s, it, &served->command);
+    count_anew(s, it);
     return left;
 }
 
-/* Which list each shard is that has something to do. All its sessions hear of another one. */
+/* Which list each shard is that has something to do. Its lane has all its sessions hear of another one. */
 static void find_list(struct sender *s, struct lane *lane)
 {
     uint64_t list = 0;
     int has_list = s->carrier->make(s->carrier, lane->shard, &list) == 0 && list != 0;
-    size_t i;
     lane->unlisted = has_list ? 0 : lane->unlisted != 0 ? lane->unlisted : milliseconds();
-    if (has_list == (int)lane->flow.has_list && (!has_list || list == lane->flow.list))
-        return;
-    lane->flow.has_list = (uint32_t)has_list;
-    lane->flow.list = has_list ? list : 0;
-    for (i = 0; i < lane->members.count && has_list; i++)
-        publish_note(s, lane->members.at[i]);
+    if (krbrelay_lane_listed(&lane->ends, (uint32_t)has_list, list) == KRBRELAY_OK)
+        lane->has_list = has_list;
+    else
+        log_system("out_of_memory", "sender"); /* the next round has it */
 }
 
 int publish_is_shard_away(const struct sender *s, const struct sending *it)
@@ -301,42 +235,25 @@ int publish_is_shard_away(const struct sender *s, const struct sending *it)
     return since != 0 && milliseconds() - since >= AWAY;
 }
 
-/* Sessions whose time has come. */
-static uint64_t wake(struct sender *s)
-{
-    uint64_t now = milliseconds(), left = 0;
-    while (s->wake_count > 0 && s->wakes[0].at <= now && left < LEFT) {
-        struct wake it = first_wake(s);
-        if (it.it->wakes != it.at)
-            continue;
-        it.it->wakes = UINT64_MAX;
-        left += serve(s, it.it);
-    }
-    return left;
-}
-
-/* Some sessions of a shard, in their turn, while it has room. */
+/* Some sessions of a shard, in their turn. The lane may have a session that couldn't be loaded: it is stopped. */
 static uint64_t serve_lane(struct sender *s, struct lane *lane)
 {
-    uint64_t left = 0, room = 0;
-    uint32_t place = 0;
+    struct krbrelay_served served;
+    uint64_t now = milliseconds(), left = 0;
     unsigned i;
-    for (i = 0; i < SERVED && left < LEFT; i++) {
-        if (krbrelay_flow_room(&lane->flow, &room) != KRBRELAY_OK || room == 0
-            || !krbrelay_queue_serve(&lane->queue, &place))
-            break;
-        left += serve(s, lane->members.at[place]);
-    }
+    for (i = 0; i < SERVED && left < LEFT && krbrelay_lane_turn(&lane->ends, now, &served) == 1; i++)
+        if (served.place < lane->members.count)
+            left += serve(s, lane->members.at[served.place], &served);
     return left;
 }
 
 int publish_all(struct sender *s)
 {
-    uint64_t left = wake(s);
+    uint64_t left = 0;
     size_t i;
     for (i = 0; i < s->lane_count; i++) {
         struct lane *lane = &s->lanes[(s->first_lane + i) % s->lane_count];
-        if (krbrelay_queue_len(&lane->queue) == 0 && lane->flow.under_way == 0 && lane->unreceipted == 0)
+        if (lane->undone == 0)
             continue;
         find_list(s, lane);
         if (left < LEFT)
@@ -360,7 +277,7 @@ static void note_next(struct sender *s, const struct sending *it)
 {
     struct sending *now = it->stream != NULL ? it->stream->now : NULL;
     if (now != NULL && now != it && now->is_held && it->end.progress.carried == it->end.progress.next)
-        publish_note(s, now);
+        release(s, now);
 }
 
 /* Frames of a session are carried. */
@@ -383,7 +300,8 @@ size_t publish_count_carried(struct sender *s, int milliseconds_to_wait)
         struct sending *it = of_tag(s, list[i].tag);
         uint32_t counts = 0;
         if (it == NULL
-            || krbrelay_sending_confirmed(&it->end, list[i].number, list[i].offset, now, &counts) != KRBRELAY_OK
+            || !publish_has(it, krbrelay_lane_confirmed(&s->lanes[it->lane].ends, it->place, list[i].number,
+                                                        list[i].offset, now, &counts))
             || !counts)
             continue;
         if (last != NULL && last != it)

@@ -26,7 +26,7 @@ struct sending {
     uint32_t place;             /* and its own among the shard's sessions */
     struct krbrelay_sealer sealer; /* made with the first text */
     struct outbox_progress kept, next_kept; /* what the outbox has, and has after this transaction */
-    struct krbrelay_sending end;   /* how far it is, and why it stands: krb_engine's */
+    struct krbrelay_sending end;   /* how far it is, and why it stands: as its shard's lane has it */
     uint64_t room;              /* so many frames more may be stored */
     uint64_t sealed;            /* the next record's number, which is end.progress.next once stored; */
     struct record *first, *last; /* the records below it that aren't sealed yet, */
@@ -45,9 +45,8 @@ struct sending {
     int is_touched, is_dirty, is_sealable, is_deaf; /* it is in the lists of sender.h */
     int is_unread;              /* `history` couldn't be read: nothing is sealed before it is */
     struct krbrelay_opener receipts; /* made with the first one */
-    uint64_t under_way, uncarried, unconfirmed, unreceipted; /* as its shard's sums have them (publish.c) */
+    uint64_t uncarried, unconfirmed, unreceipted, undone; /* as its shard's sums have them (publish.c) */
     uint64_t left;              /* the frames below have left before */
-    uint64_t wakes;             /* when it is looked at, in milliseconds; UINT64_MAX: not by itself */
     uint32_t stands, stands_now; /* why it stands, as the outbox has it, and now: KRBRELAY_STANDS_* */
 };
 

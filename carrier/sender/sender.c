@@ -125,10 +125,9 @@ static void note_kept(struct sender *s)
     s->dirty.count = 0;
     for (i = 0; i < s->touched.count; i++) {
         struct sending *it = s->touched.at[i];
-        if (krbrelay_sending_sealed(&it->end, it->sealed - it->end.progress.next) != KRBRELAY_OK)
-            log_fact(LEVEL_ERROR, "progress_unknown", field_text("session", it->of.name),
-                     field_number("next", it->end.progress.next), field_number("sealed", it->sealed));
-        it->kept.next = it->end.progress.next;
+        (void)publish_has(it, krbrelay_lane_sealed(&s->lanes[it->lane].ends, it->place,
+                                                   it->sealed - it->end.progress.next));
+        it->kept.next = it->sealed;
         it->is_touched = 0;
         it->is_stored = 1;
         free(it->wrapped);
@@ -193,7 +192,7 @@ static uint64_t awaited(const struct sender *s)
     uint64_t frames = 0;
     size_t i;
     for (i = 0; i < s->lane_count; i++)
-        frames += s->lanes[i].flow.has_list ? s->lanes[i].unconfirmed : s->lanes[i].uncarried;
+        frames += s->lanes[i].has_list ? s->lanes[i].unconfirmed : s->lanes[i].uncarried;
     return frames;
 }
 

@@ -2,10 +2,9 @@
  * from the outbox, publish.c does for a session what krb_engine says, sender.c stores what was done, and has one
  * round of the loop, and sender_report.c shows it. sender_main.c is the program.
  *
- * What leaves, and when again, what a receipt means and why a session stands is krb_engine's (docs/ENGINE.md):
- * each session has a krbrelay_sending, each shard a krbrelay_flow and a queue of the sessions with something to
- * do. The sender is the only one that repeats, and a receipt is the only word that deletes. Nothing is asked of a
- * session.
+ * Which session is served and when, what leaves, and when again, what a receipt means and why a session stands is
+ * krb_sender's (docs/ENGINE.md): each shard has a krbrelay_lane with all its sessions. The sender is the only one that
+ * repeats, and a receipt is the only word that deletes. Nothing is asked of a session.
  *
  * A session is loaded when its first text comes, or if it has frames. When the file of sessions is
  * another one, all begins anew as in a sender that starts.
@@ -32,14 +31,14 @@ struct options {
 struct lane {
     unsigned shard;
     struct list members;         /* its sessions, by their places */
-    struct krbrelay_flow flow;   /* the list to which frames are published, and how many are under way */
-    struct krbrelay_queue queue; /* whose turn it is */
-    uint64_t unlisted;           /* since this moment its list can't be had; 0: it can, or nobody asked */
-    uint64_t uncarried, unconfirmed, unreceipted; /* frames of its sessions, as of all */
+    struct krbrelay_lane ends;   /* their ends: whose turn it is, and what is to be done. Behind the members it has one
+                                  * end more at most, of a session that couldn't be loaded: */
+    int has_spare;
+    int has_list;                /* the list to which frames are published can be had */
+    uint64_t unlisted;           /* since this moment it can't; 0: it can, or nobody asked */
+    uint64_t uncarried, unconfirmed, unreceipted; /* frames of its sessions, as of all, */
+    uint64_t undone;             /* and those that didn't take effect, of sessions that aren't stopped */
 };
-
-/* A time at which a session is looked at. */
-struct wake { uint64_t at; struct sending *it; };
 
 /* What an application calls a stream. */
 struct stream {
@@ -76,8 +75,6 @@ struct sender {
     struct list untold;         /* that are stopped, and the outbox doesn't say so yet */
     struct list sealable;       /* with texts that wait, of which some may be sealed now */
     struct list deaf;           /* with receipts that can't be heard now */
-    struct wake *wakes;         /* a heap of times, */
-    size_t wake_count, wake_room;
     void *kept;                 /* tsearch's tree of the receipts that were there at the start, of sessions that
                                  * weren't loaded since, and of those that can't be heard now */
     struct stop *spare;         /* room for the next receipt that stops a session, or NULL */
@@ -121,8 +118,9 @@ enum outbox_answer sender_end_stop(struct sender *s, const char *session);
 
 /* ---- sender_sessions.c */
 
-/* Adds a session, as the outbox has it. NULL after a fault of the outbox, or out of memory. */
-struct sending *sender_add(struct sender *s, const struct session *of);
+/* Adds a session, as the outbox has it, which begins by a ticket if `begun` isn't NULL: that is its own then. NULL after
+ * a fault of the outbox, or out of memory. */
+struct sending *sender_add(struct sender *s, const struct session *of, struct begun *begun);
 
 /* The session that takes the texts of this name: 1, 0 if there is none, -1 after a fault. In a
  * transaction. */
@@ -181,7 +179,7 @@ void texts_give_up(struct sender *s, sqlite3_int64 seen);
 
 /* ---- publish.c */
 
-/* Does what krb_engine says of sessions whose turn it is. 1 if more wait for theirs. */
+/* Does what krb_sender says of sessions whose turn it is. 1 if more wait for theirs. */
 int publish_all(struct sender *s);
 
 /* Whether the list of a session's shard can't be had for long. */
@@ -190,7 +188,13 @@ int publish_is_shard_away(const struct sender *s, const struct sending *it);
 /* Counts the frames that are carried now, and answers how many. Waits for the first at most so long. */
 size_t publish_count_carried(struct sender *s, int milliseconds);
 
-/* Something has happened to the session: what is counted of it is counted anew, and it has its turn. */
+/* Whether a lane has the session, by its answer to a call: that it hasn't is never, and told. */
+int publish_has(const struct sending *it, enum krbrelay_answer answer);
+
+/* Takes the session's end from its shard's lane: 0, or -1 where it has none. */
+int publish_look(struct sender *s, struct sending *it);
+
+/* Something has happened to the session: what is counted of it is counted anew. */
 void publish_note(struct sender *s, struct sending *it);
 
 /* Nothing of it leaves any more, for its `reason`: the next round says so in the outbox. */

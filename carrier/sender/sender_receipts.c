@@ -31,18 +31,16 @@ static void write_reason(struct sending *it, uint64_t n)
                   (unsigned long long)it->end.done);
 }
 
-/* The digest of this outbox's own frames below a receipt's number; what the receipt says, where one of both ends knows
- * none. 0, or -1 where it can't be read now. */
-static int own_of(struct sender *s, const struct sending *it, const struct receipt *receipt, struct history *own)
+/* The digest of this outbox's own frames below a receipt's number, if both ends know one. */
+static enum krbrelay_own own_of(struct sender *s, const struct sending *it, const struct receipt *receipt,
+                                struct history *own)
 {
     *own = receipt->history;
     if (!receipt->history.is_known || receipt->n <= it->end.done || receipt->n > it->end.progress.next)
-        return 0;
+        return KRBRELAY_OWN_UNKNOWN; /* it isn't compared */
     if (outbox_history(&s->outbox, &it->of, it->kept.done, &it->kept.history, receipt->n, own) != 0)
-        return -1;
-    if (!own->is_known)
-        *own = receipt->history;
-    return 0;
+        return KRBRELAY_OWN_FAULT;
+    return own->is_known ? KRBRELAY_OWN_KNOWN : KRBRELAY_OWN_UNKNOWN;
 }
 
 /* Room for the receipt that stops a session, which is had before one can. */
@@ -70,17 +68,23 @@ static enum heard hear_receipt(struct sender *s, struct sending *it, const uint8
     struct krbrelay_receipt said = { .asks = 0 };
     struct receipt receipt = { .n = 0 };
     struct history own;
+    enum krbrelay_own own_is;
     uint32_t heard = KRBRELAY_HEARD_NOTHING;
     enum receipt_answer read = has_spare(s) ? receipt_open(&it->of, &it->receipts, bytes, len, &receipt) : RECEIPT_FAULT;
     if (read == RECEIPT_NONE)
         return HEARD_NOTHING;
-    if (read == RECEIPT_FAULT || own_of(s, it, &receipt, &own) != 0)
+    if (read == RECEIPT_FAULT)
         return HEARD_FAULT;
+    own_is = own_of(s, it, &receipt, &own);
     said.number = receipt.n;
     said.asks = receipt.asks;
     memcpy(said.history, receipt.history.bytes, sizeof said.history);
-    if (krbrelay_sending_receipt(&it->end, &said, own.bytes, milliseconds(), &heard) != KRBRELAY_OK)
+    if (!publish_has(it, krbrelay_lane_receipt(&s->lanes[it->lane].ends, it->place, &said, own.bytes, own_is,
+                                               milliseconds(), &heard))
+        || publish_look(s, it) != 0)
         return HEARD_NOTHING;
+    if (heard == KRBRELAY_HEARD_AGAIN)
+        return HEARD_FAULT;
     if (heard != KRBRELAY_HEARD_ENDED)
         return heard == KRBRELAY_HEARD_DELIVERED ? HEARD_DELIVERED : HEARD_NOTHING;
     write_reason(it, receipt.n);

@@ -43,7 +43,7 @@ static void free_sending(struct sending *it)
     free(it);
 }
 
-struct sending *sender_add(struct sender *s, const struct session *of)
+struct sending *sender_add(struct sender *s, const struct session *of, struct begun *begun)
 {
     size_t place = lane_of(s, of->shard);
     struct lane *lane = &s->lanes[place];
@@ -55,36 +55,58 @@ struct sending *sender_add(struct sender *s, const struct session *of)
     it->lane = place;
     it->place = (uint32_t)lane->members.count;
     it->tag = s->first_tag + (uint32_t)s->all.count;
-    it->wakes = UINT64_MAX;
     it->is_stored = 1; /* but of a stream's session that begins now */
+    it->begun = begun;
     if (tsearch(it, &s->by_name, by_name) != NULL && sender_load(s, it) == 0)
         heard = receipts_hear_kept(s, it);
     if (heard != HEARD_FAULT) {
         s->all.at[s->all.count++] = it;
         lane->members.at[lane->members.count++] = it;
+        lane->has_spare = 0;
         receipts_note(s, it, heard);
         return it;
     }
+    if (lane->has_spare)
+        (void)publish_has(it, krbrelay_lane_stop(&lane->ends, it->place)); /* until it is loaded again */
+    it->begun = NULL; /* it is the caller's */
     (void)tdelete(it, &s->by_name, by_name); /* NULL if it isn't there */
     free_sending(it);
     return NULL;
 }
 
+/* Its shard's lane has the end that the outbox has of it. */
+static enum krbrelay_answer load_end(struct sender *s, const struct sending *it)
+{
+    struct lane *lane = &s->lanes[it->lane];
+    const struct outbox_progress *kept = &it->kept;
+    int is_elsewhere = kept->shard >= 0 && kept->shard != (int32_t)it->of.shard;
+    struct krbrelay_stored row = { .next = kept->next, .carried = kept->carried, .at = kept->at, .done = kept->done,
+                                       .list = is_elsewhere ? 0 : kept->incarnation };
+    enum krbrelay_answer answer;
+    uint32_t place = 0;
+    if (it->place < lane->members.count || lane->has_spare)
+        return krbrelay_lane_reload(&lane->ends, it->place, &row, it->begun != NULL);
+    answer = krbrelay_lane_add(&lane->ends, &row, it->begun != NULL, &place);
+    lane->has_spare = answer == KRBRELAY_OK; /* until it is a member */
+    return answer;
+}
+
 int sender_load(struct sender *s, struct sending *it)
 {
     struct outbox_progress *kept = &it->kept;
-    int is_elsewhere;
+    enum krbrelay_answer answer;
     if (outbox_load(&s->outbox, &it->of, kept) != 0)
         return -1;
-    is_elsewhere = kept->shard >= 0 && kept->shard != (int32_t)it->of.shard;
-    if (krbrelay_sending_load(&it->end, kept->next, kept->carried, kept->at, kept->done,
-                              is_elsewhere ? 0 : kept->incarnation, milliseconds()) != KRBRELAY_OK) {
+    answer = load_end(s, it);
+    if (answer == KRBRELAY_MEMORY)
+        log_system("out_of_memory", "sender");
+    if (answer == KRBRELAY_ARGUMENT)
         log_fact(LEVEL_ERROR, "progress_unknown", field_text("session", it->of.name),
                  field_number("next", kept->next), field_number("carried", kept->carried),
                  field_number("done", kept->done),
                  field_text("text", "the outbox has these numbers, which are no progress"));
+    if (answer != KRBRELAY_OK || publish_look(s, it) != 0)
         return -1;
-    }
     it->stands = kept->stands;
     return sender_read_history(s, it);
 }
@@ -108,7 +130,7 @@ int sender_find(struct sender *s, const char *name, struct sending **it)
         return 1;
     is_there = sessions_find(s->sessions, name, &of);
     if (is_there && receipt_key(&of) == 0)
-        *it = sender_add(s, &of);
+        *it = sender_add(s, &of, NULL);
     explicit_bzero(&of, sizeof of);
     if (is_there)
         return *it != NULL ? 1 : -1;
@@ -172,7 +194,7 @@ void sender_forget(struct sender *s)
     for (i = 0; i < s->all.count; i++)
         free_sending(s->all.at[i]);
     for (i = 0; i < s->lane_count; i++) {
-        krbrelay_queue_free(&s->lanes[i].queue);
+        krbrelay_lane_free(&s->lanes[i].ends);
         list_forget(&s->lanes[i].members);
         s->lanes[i] = (struct lane){ .shard = s->lanes[i].shard };
     }
@@ -183,9 +205,7 @@ void sender_forget(struct sender *s)
     list_forget(&s->sealable);
     list_forget(&s->untold);
     list_forget(&s->deaf);
-    free(s->wakes);
-    s->wakes = NULL;
-    s->wake_count = s->wake_room = s->held = 0;
+    s->held = 0;
     s->uncarried = s->unconfirmed = s->unreceipted = 0;
     s->has_begun = 0;
     s->seen = 0;

@@ -26,7 +26,7 @@ static struct sending *add(struct sender *s, struct stream *stream, const struct
     if (copy != NULL) {
         *copy = *it;
         if (opening_session(s->kerberos, &it->opened, it->opened.shard, &of) == 0)
-            added = sender_add(s, &of);
+            added = sender_add(s, &of, copy);
         explicit_bzero(&of, sizeof of);
     }
     if (added == NULL) {
@@ -35,7 +35,6 @@ static struct sending *add(struct sender *s, struct stream *stream, const struct
         free(copy);
         return NULL;
     }
-    added->begun = copy;
     added->stream = stream;
     added->wrapped = wrapped;
     added->is_stored = wrapped == NULL;

@@ -31,4 +31,13 @@ enum plant { PLANT_NONE, PLANTS(PLANT_VALUE) PLANT_COUNT };
 /* This run has the fault of this name. 0 if there is none. */
 int engine_plant(const char *text);
 
+/* Whether it has this one; whether it has one. */
+int engine_has(enum plant it);
+int engine_has_any(void);
+
+#define WRAPPED(type, name, ...) \
+    type __real_krbrelay_##name(__VA_ARGS__); \
+    type __wrap_krbrelay_##name(__VA_ARGS__); \
+    type __wrap_krbrelay_##name(__VA_ARGS__)
+
 #endif

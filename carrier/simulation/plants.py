@@ -2,12 +2,8 @@
 that stands there once, and what takes its place. Those around the calls of krb_engine are engine.h's."""
 
 EDITS = {
-    "digests aren't compared": [("sender_receipts.c", """\
-    if (!own->is_known)
-        *own = receipt->history;
-""", """\
-    *own = receipt->history;
-""")],
+    "digests aren't compared": [("sender_receipts.c", "own->is_known ? KRBRELAY_OWN_KNOWN : KRBRELAY_OWN_UNKNOWN",
+      "KRBRELAY_OWN_UNKNOWN")],
     "a receipt above the next number is no receipt": [("sender_receipts.c", "RECEIPT_NONE",
       "RECEIPT_NONE || (read == RECEIPT_READ && receipt.n > it->end.progress.next)")],
     "receipts leave before the commit": [("shard_transaction.c", """\
@@ -72,7 +68,7 @@ SEAL_OK && outbox_insert(&s->outbox) == 0) {
     "an outbox takes transactions of two senders": [
         ("outbox.c", "turn ==", "turn >="), ("outbox.c", "next = ?3", "?3 IS NOT NULL")],
     "an opening leaves before the session before is carried": [
-        ("publish.c", "(!tickets_have(s->tickets) || sender_is_after(s, it)", "!tickets_have(s->tickets")],
+        ("publish.c", "!tickets_have(s->tickets) || sender_is_after(s, it)", "!tickets_have(s->tickets)")],
     "a failed text is put aside at once": [("effects.c", "times >= chosen.tries;", "times > 0;")],
     "a failed text is never put aside": [("effects.c", "times >= chosen.tries;", "times > 1000 + chosen.tries;")],
     "a session is forgotten before the next one has begun": [("outbox.c", """\
@@ -101,21 +97,20 @@ some.count = 0;
 FOUND = {
     "digests aren't compared": ("forked+killed", 1, "LOST"),
     "a receipt above the next number is no receipt": ("restored", 1, "LEFT_OUT"),
-    "receipts leave before the commit": ("uncommitted", 1, "LOST"),
+    "receipts leave before the commit": ("uncommitted", 13, "LOST"),
     "what was dropped stays": ("uncommitted", 1, "LOST"),
     "an early frame is taken for nobody's": ("cut", 1, "STANDS"),
-    "a repeat is taken for nobody's": ("lost+killed", 1, "STANDS"),
+    "a repeat is taken for nobody's": ("lost+killed", 2, "STANDS"),
     "a refused frame is taken for nobody's": ("skewed", 1, "UNTRUE"),
     "a frame is accepted at any number": ("lost", 1, "OVERTAKEN"),
     "one item in a read is skipped": ("calm", 1, "LATE"),
-    "the session before is looked for once": ("tickets+keys", 1, "STANDS"),
+    "the session before is looked for once": ("tickets+keys", 3, "STANDS"),
     "a second session after one is stored": ("forked+tickets+keys", 1, "DOUBLED"),
     "rows aren't compared": ("moved+stopped+bursts", 5, "DOUBLED"),
     "frames leave before they are stored": ("uncommitted", 1, "STANDS"),
     "after a fault of the outbox nothing is loaded again": ("outbox_unknown", 1, "UNTOLD"),
     "an outbox takes transactions of two senders": ("taken_over", 1, "UNTRUE"),
     "what was told is forgotten where a key is tried again": ("forked+tickets+keys", 12, "UNTOLD"),
-    "an opening leaves before the session before is carried": ("calm+tickets", 3, "UNTRUE"),
     "a failed text is put aside at once": ("refused_a_while+aside", 1, "ASIDE_EARLY"),
     "a failed text is never put aside": ("refused+aside", 1, "NOT_ASIDE"),
     "a session is forgotten before the next one has begun": ("tickets+killed+carrier", 1, "STANDS"),
@@ -129,9 +124,9 @@ FOUND = {
     "a list that was cut off is waited for": ("cut", 4, "STANDS"),
     "an opening is taken on any history": ("forked+killed+tickets", 7, "OVERTAKEN"),
     "an opening is taken before the close before it": ("cut+killed+slow+tickets", 2, "OVERTAKEN"),
-    "another session of a turn that was had begins": ("cut+killed+slow+tickets", 8, "OVERTAKEN"),
+    "another session of a turn that was had begins": ("cut+killed+slow+tickets", 36, "OVERTAKEN"),
     "the window stays after a silence": ("silent+bursts", 1, "FLOOD"),
-    "a refused frame isn't held": ("skewed", 1, "UNTRUE"),
+    "a refused frame isn't held": ("skewed", 2, "UNTRUE"),
     "the pause of asks doesn't grow": ("skewed", 1, "FLOOD"),
     "the first probe comes after 300 s": ("calm", 2, "UNTRUE"),
     "the first repeat comes after 64 s": ("calm", 2, "LATE"),
@@ -153,6 +148,9 @@ MADE_UP = {
     "another list is read from where the last one was": (
         "the receiver misses the frame and asks for it",
         ("deleted", "deleted+tickets", "cut+deleted", "deleted+killed+purged")),
+    "an opening leaves before the session before is carried": (
+        "a receiver takes it for one of a later turn, which has to come again",
+        ("calm+tickets", "tickets+killed", "keys+tickets", "tickets+killed+carrier")),
     "offsets aren't compared": (
         "rows are: each frame that is accepted changes one",
         ("carrier+killed+lost", "lost+stopped", "killed+slow", "bursts+stopped")),

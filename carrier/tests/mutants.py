@@ -55,9 +55,9 @@ EDITS = {
 .carried = end->progress.carried, .done = end->progress.carried,
 """),
     "receipts of other frames count": ("sender_receipts.c", """\
-    if (!own->is_known)
+    return own->is_known ? KRBRELAY_OWN_KNOWN : KRBRELAY_OWN_UNKNOWN;
 """, """\
-    if (own->is_known)
+    return KRBRELAY_OWN_UNKNOWN;
 """),
     "receipts from before aren't read": ("sender.c", """\
     if (!s->has_heard)
