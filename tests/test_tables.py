@@ -38,7 +38,7 @@ CALLS, PACKAGE = "crates/krb_c/src/message_calls.rt", "python/tests/test_library
 # Where the version stands: the file, the words around it, and what of it stands there. A symbol's
 # version is that of the library which brought it: its major number alone is compared.
 PLACES = [
-    ("README.md", r"^\*\*Version\*\*: (\S+),", "whole"),
+    ("README.md", r"^- \*\*Status\*\*: (\S+),", "whole"),
     ("crates/krb_program/src/command.rt", r'\.version\("(.*)"\)', "whole"),
     ("tests/kit/copied.py", r"echo krbrelay (\S+)", "whole"),
     (CALLS, r"^/// The version of the library: (\w+) is ", "packed"),
