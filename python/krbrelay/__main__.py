@@ -23,7 +23,7 @@ among other bytes, messages are searched for. What isn't given isn't demanded. T
 of the library's opener, which is proved. This tool, which finds the messages and words the answers,
 is tested, not proved. The exit status is 0 if all were accepted, 1 if a message was refused or none
 was found, and 2 if an argument is wrong or a file can't be read."""
-TOLD = ("{} messages, {} refused. They were opened by libkrbrelay's proved opener; this tool "
+TOLD = ("messages: {}, refused: {}. They were opened by libkrbrelay's proved opener; this tool "
         "beside it is tested")
 
 NO_KEY = "the file holds neither 16 nor 32 bytes, as they are or as hexadecimal digits"
@@ -134,7 +134,7 @@ def asked_of(given: argparse.Namespace) -> why.Asked:
     """What is demanded. KeyFault, OSError."""
     keys = tuple(map(named_key, given.key))
     mode = None if given.mode is None else Mode[given.mode]
-    return why.Asked(keys, mode, given.from_, given.to, given.number, given.at, given.skew)
+    return why.Asked(keys, mode, given.from_, given.to_, given.number, given.at, given.skew)
 
 
 def places(given: argparse.Namespace) -> Iterator[why.Place]:
@@ -194,6 +194,8 @@ def main(words: Optional[List[str]] = None) -> int:
     given = parser().parse_args(words)
     try:
         return int(given.run(given))
+    except LibraryError:
+        raise
     except KeyFault as fault:
         told = f"key: {fault}"
     except (OSError, ValueError, NoCapture) as fault:

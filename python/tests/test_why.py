@@ -221,7 +221,7 @@ NOT_SENT = [
 ]
 CHANGED = [
     (lambda it: it.replace(b"\xa0\3\2\1\5", b"\xa0\3\2\1\4", 1), "39 BADVERSION", "pvno", "5", "4"),
-    (lambda it: re.sub(rb"\xa1\3\2\1.", b"\xa1\3\2\1\x0b", it, 1), "40 MSG_TYPE", "msg-type", "2", "11"),
+    (lambda it: re.sub(rb"\xa1\x03\x02\x01.", b"\xa1\3\2\1\x0b", it, count=1, flags=re.S), "40 MSG_TYPE", "msg-type", "2", "11"),
     (lambda it: it[:-1], "901 MALFORMED", "", "a message in DER", "at byte 1, "),
     (lambda it: it[:20], "901 MALFORMED", "", "a message in DER", "at byte 1, "),
     (lambda it: it + b"\0", "901 MALFORMED", "", "a message in DER", "at byte "),
