@@ -264,9 +264,9 @@ def version():
 def places():
     """Each place that says the version, of which the pages of the manual are one a page."""
     yield from PLACES
-    for path in sorted(it for place in (PAGES, "carrier/man") for it in glob.glob(os.path.join(building.TOP, place, "*.[378]"))):
+    for path in sorted(it for place in (PAGES, "carrier/man") for it in glob.glob(os.path.join(building.TOP, place, "*.[1378]"))):
         page = os.path.relpath(path, building.TOP)
-        yield page, r'^\.TH \S+ [378] \S+ "krbrelay (.*?)"', "whole"
+        yield page, r'^\.TH \S+ [1378] \S+ "krbrelay (.*?)"', "whole"
 
 
 def written():

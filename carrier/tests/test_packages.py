@@ -3,6 +3,8 @@ the rules and the dashboard of Prometheus their metrics, and the units how littl
 import json
 import os
 import re
+import subprocess
+import sys
 
 import pytest
 import sources as places
@@ -36,6 +38,15 @@ def page_options(page):
 def test_the_manual_has_each_option(program):
     assert len(usage_options(program)) > 15
     assert page_options(f"krbrelay-{program}") == usage_options(program)
+
+
+@pytest.mark.parametrize("name", ["put", "get"])
+def test_the_manual_of_put_and_get_has_each_option(name):
+    words = [sys.executable, os.path.join(SOURCES, "../python/krbrelay/carrier.py"), name, "--help"]
+    said = subprocess.run(words, check=True, stdout=subprocess.PIPE, text=True).stdout
+    named = set(OPTION.findall(said.partition("options:")[2]))
+    lines = re.findall(r"^\.TP\n\.B (.*)$", text_of(f"man/krbrelay-{name}.1"), re.M)
+    assert {it for line in lines for it in OPTION.findall(line.replace("\\", ""))} == named - {"--help"} and len(named) > 3
 
 
 def test_the_manual_of_status_has_each_option():

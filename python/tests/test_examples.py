@@ -126,7 +126,7 @@ class TwoEnds(unittest.TestCase):
     def test_the_block_of_the_readme(self):
         """It runs as it is pasted, and prints what stands below it."""
         with open(os.path.join(TOP, "README.md"), encoding="utf-8") as file:
-            block, printed = re.search(r"^```python\n(.*?)^```\n\n((?:    .*\n)+)", file.read(), re.M | re.S).groups()
+            block, printed = re.search(r"^```python\n((?:.*\n)*?)```\n\n((?:    .*\n)+)", file.read(), re.M).groups()
         done = subprocess.run([sys.executable, "-c", block], capture_output=True, text=True,
                               env={**os.environ, "PYTHONPATH": PYTHON}, stdin=subprocess.DEVNULL)
         self.assertEqual((done.returncode, done.stderr), (0, ""))
