@@ -38,7 +38,8 @@ class Sources(unittest.TestCase):
             ast.parse(text_of(path), path, feature_version=(3, 9))
 
     def test_they_need_the_interpreter_alone(self):
-        """What is imported is the package's own, or there in an interpreter with no packages."""
+        """What is imported is the package's own, or there in an interpreter with no packages; of one
+        example, which says so, Debian's python3-gssapi."""
         names = set()
         for path in SOURCES:
             for node in ast.walk(ast.parse(text_of(path))):
@@ -46,7 +47,7 @@ class Sources(unittest.TestCase):
                     names.update(it.name for it in node.names)
                 elif isinstance(node, ast.ImportFrom):
                     names.add(node.module)
-        others = sorted(it for it in names if it.split(".")[0] != "krbrelay")
+        others = sorted(it for it in names if it.split(".")[0] not in ("krbrelay", "gssapi"))
         ran = subprocess.run([sys.executable, "-I", "-S", "-c", "import " + ", ".join(others)],
                              capture_output=True, text=True)
         self.assertEqual((ran.returncode, ran.stderr), (0, ""))

@@ -26,7 +26,7 @@ SERVERS = ("Debian's nats-server, libnats-dev, postgresql, libpq-dev, libmicroht
 JAVA = "Debian's libjna-java and default-jdk-headless"
 PROMETHEUS = "Debian's prometheus, systemd and strace"
 PSYCOPG = "Debian's python3-psycopg2"
-DUMPCAP = "Debian's wireshark-common"
+DUMPCAP = "Debian's wireshark-common and python3-gssapi"
 REALM = "Debian's krb5-kdc, krb5-admin-server, krb5-kpropd and krb5-user"
 CROSS = "Debian's gdb, gcc-aarch64-linux-gnu, libc6-dev-arm64-cross and qemu-user-static"
 PACKAGING = ("Debian's debhelper, dh-python, dpkg-dev, lintian, isa-support and debootstrap, and"
@@ -61,7 +61,7 @@ IS_THERE = {
     MIT: lambda: runs("pkg-config", "--exists", "mit-krb5"),
     HEIMDAL: lambda: runs("pkg-config", "--exists", "heimdal-krb5"),
     PSYCOPG: lambda: runs("python3", "-c", "import psycopg2"),
-    DUMPCAP: lambda: has("dumpcap"),
+    DUMPCAP: lambda: has("dumpcap") and runs("/usr/bin/python3", "-c", "import gssapi"),
     REALM: lambda: all(shutil.which(it, path="/usr/sbin:/usr/bin:/sbin:/bin") for it in
                        ("krb5kdc", "kadmind", "kpropd", "kprop", "kpasswd", "kadmin.local")),
     CROSS: lambda: has("gdb") and has("aarch64-linux-gnu-gcc") and has("qemu-aarch64-static")
