@@ -1,5 +1,6 @@
-"""The session key of two programs comes from Kerberos, by Debian's python3-gssapi: the client sends a
-token, which has an AP-REQ, and the service answers by one, which has an AP-REP. Both have a key then."""
+"""The session key of two programs comes from Kerberos, by Debian's python3-gssapi: the client sends
+a token, which has an AP-REQ, and the service answers by one, which has an AP-REP. Both have a key
+then."""
 import sys
 
 import gssapi
@@ -19,8 +20,8 @@ def key_of(context):
 
 def main(name):
     service = gssapi.Name(name, gssapi.NameType.hostbased_service)
-    client = gssapi.SecurityContext(name=service, usage="initiate", flags=(
-        gssapi.RequirementFlag.mutual_authentication, gssapi.RequirementFlag.out_of_sequence_detection))
+    client = gssapi.SecurityContext(name=service, usage="initiate",
+                                    flags=gssapi.RequirementFlag.mutual_authentication)
     server = gssapi.SecurityContext(usage="accept")     # by the service's keytab
     token = client.step()                               # of the client: send it to the service
     answer = server.step(token)                         # of the service: send it back
