@@ -40,6 +40,14 @@ def test_the_manual_has_each_option(program):
     assert page_options(f"krbrelay-{program}") == usage_options(program)
 
 
+@pytest.mark.parametrize("name", ["all", "cluster", "demo", "demo_kerberos", "realm"])
+def test_a_script_says_what_its_head_says(name, tmp_path):
+    """And does nothing else."""
+    head = re.match(r"#!.*\n((?:#.*\n)+)", text_of(name))[1]
+    done = subprocess.run([os.path.join(SOURCES, name), "--help"], cwd=tmp_path, check=True, capture_output=True, text=True)
+    assert (done.stdout, done.stderr) == (re.sub(r"(?m)^# ?", "", head), "") and not os.listdir(tmp_path)
+
+
 @pytest.mark.parametrize("name", ["put", "get"])
 def test_the_manual_of_put_and_get_has_each_option(name):
     words = [sys.executable, os.path.join(SOURCES, "../python/krbrelay/carrier.py"), name, "--help"]
