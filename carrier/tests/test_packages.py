@@ -62,6 +62,29 @@ def test_the_manual_of_status_has_each_option():
     assert page_options("krbrelay-status") == {it for line in said for it in OPTION.findall(line.split("  ")[0])}
 
 
+# The calls by which an event is logged, and its name, or two.
+LOGS = re.compile(r'\b(?:log_fact|log_system|log_report|log_numbers|report_answer|kerberos_report|shard_report|print)'
+                  r'\((?:&?\w+(?:->\w+)*, )?(?:[^"();]*\? )?"([a-z_]+)"(?: : "([a-z_]+)")?')
+OWN = {"sender": ("sender",), "receiver": ("receiver", "effects", "stores")}
+
+
+def test_the_manual_has_each_event():
+    """Each event of the sources is on a page, and one of a program's own folders on its page; no other is. So is each
+    reason of a refused opening."""
+    by_folder, said = {}, {}
+    for path in places.all_of():
+        events = {it for pair in LOGS.findall(text_of(os.path.basename(path))) for it in pair if it}
+        by_folder.setdefault(os.path.basename(os.path.dirname(path)), set()).update(events)
+    for program, folders in OWN.items():
+        page = text_of(f"man/krbrelay-{program}.8").partition(".SH DIAGNOSTICS")[2]
+        said[program] = set(re.findall(r"^\.B ([a-z_]+)$", page, re.M))
+        own = set().union(*(by_folder[it] for it in folders))
+        assert len(own) > 10 and own <= said[program], own - said[program]
+    assert set().union(*by_folder.values()) == set().union(*said.values())
+    reasons = set(re.findall(r"^    X\((\w+)\) /\*", text_of("opening.h"), re.M))
+    assert set(re.findall(r"^\.B OPENING_(\w+)$", text_of("man/krbrelay-receiver.8"), re.M)) == reasons and len(reasons) > 10
+
+
 def metrics():
     """The metrics that the programs have."""
     found = set()
