@@ -389,7 +389,7 @@ def walk(heading):
 
 def named_files(text):
     """The paths of files that a text names in backquotes, or as docs/*.md."""
-    return set(re.findall(r"`([\w./-]+\.(?:rt|antt|h|c|py|rs|go|3|1|toml|json))`", text)
+    return set(re.findall(r"`([\w./-]+\.(?:rt|antt|h|c|py|rs|go|3|1|8|toml|json))`", text)
                + re.findall(r"\bdocs/\w+\.md", text))
 
 
