@@ -212,19 +212,19 @@ def streams(data: bytes) -> Iterator[Stream]:
 def joined(ends: Ends, pieces: List[Piece]) -> Iterator[Stream]:
     """The pieces of a direction of TCP in the order of their numbers, each byte once."""
     first = pieces[0].sequence or 0
-    places: List[Tuple[int, Packet]]
-    end: Optional[int]
 
     def place_of(piece: Piece) -> int:    # numbers wrap, and a piece may come before its time
         return ((piece.sequence or 0) - first + 2**31) % 2**32 - 2**31
 
-    data, places, end = bytearray(), [], None
-    for piece in sorted(pieces, key=place_of):
+    ordered = sorted(pieces, key=place_of)
+    data, end = bytearray(), place_of(ordered[0])
+    places: List[Tuple[int, Packet]] = []
+    for piece in ordered:
         begin = place_of(piece)
-        if end is not None and begin > end:
+        if begin > end:
             yield Stream(ends, bytes(data), places)
-            data, places, end = bytearray(), [], None
-        fresh = piece.data if end is None else piece.data[end - begin:]
+            data, places, end = bytearray(), [], begin
+        fresh = piece.data[end - begin:]
         if fresh:
             places.append((len(data), piece.packet))
             data += fresh

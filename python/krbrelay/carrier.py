@@ -92,8 +92,7 @@ def texts(store: Any, after: int = 0, session: Optional[str] = None,
     id, so whoever keeps the last id reads with `take`."""
     cursor = store.cursor()
     cursor.execute(f"SELECT {COLUMNS} {chosen(after, session, limit)}")
-    for row in iter(cursor.fetchone, None):
-        yield text_of(row)
+    yield from map(text_of, iter(cursor.fetchone, None))
 
 
 def take(store: Any, limit: int = 1000) -> Iterator[Text]:

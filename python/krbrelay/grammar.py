@@ -127,7 +127,8 @@ class Field(NamedTuple):
 
 def sequence(part: Part, grammar: Tuple[Field, ...]) -> Dict[str, Any]:
     """The fields of a SEQUENCE by their names, None for an absent one. Malformed."""
-    rest, found = only(part, 0x30), {}
+    rest = only(part, 0x30)
+    found: Dict[str, Any] = {}
     for it in grammar:
         tag = 0xA0 + it.number
         here = rest._replace(field=f"{part.field} {it.name}".strip())
