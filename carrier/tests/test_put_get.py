@@ -150,12 +150,12 @@ def test_status_in_json(ends):
         assert watching.wait(TO_WAIT) == 130
 
 
-def test_the_first_lines_of_the_page(programs, tmp_path):
-    """As they are pasted, with the programs that are built here."""
-    folder = tmp_path / "bin"
-    folder.mkdir()
-    for name, place in (("sender", f"{programs}/sender"), ("receiver", f"{programs}/receiver"), ("put", MODULE), ("get", MODULE)):
-        (folder / f"krbrelay-{name}").symlink_to(place)
+def test_the_first_lines_of_the_page(programs, prefix, tmp_path):
+    """As they are pasted, with what `make install` installs."""
+    words = ["make", "-s", "-C", SOURCES, "install", f"OUT={programs}", f"PREFIX={prefix}", f"DESTDIR={tmp_path}/at",
+             "WITH_NATS=no", "WITH_POSTGRESQL=no"]
+    subprocess.run(words, check=True, stdout=subprocess.DEVNULL)
+    folder = f"{tmp_path}/at{prefix}/bin"
     page = building.text_of("carrier/README.md")
     block = re.search(r"^## Try it\n\n(?:[^ ].*\n)+\n((?:    .*\n)+)", page, re.M)[1]
     lines = [line[4:] for line in block.splitlines()]

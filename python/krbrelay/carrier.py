@@ -1,4 +1,3 @@
-#!/usr/bin/env python3
 """Into the carrier and out of it: an application puts texts into a sender's outbox, and takes them
 from the receivers' store. It needs neither the library nor another module of this package, and is
 installed as the commands krbrelay-put and krbrelay-get."""
