@@ -81,7 +81,7 @@ PLACES = [
 OTHER_VERSION = "7.8.9"         # no part of which is one of a version here
 # Prose whose numbers of a thousand and more are limits, but for the limit before the present one.
 # Tests and benchmarks have other sizes.
-PROSE = ("crates/*/src/**/*.rt", HEADER, "docs/C.md", "docs/PYTHON.md", "docs/USE.md",
+PROSE = ("crates/*/src/**/*.rt", HEADER, "docs/C.md", "docs/PYTHON.md", "docs/USE.md", "docs/CRATES.md",
          PAGES + "/*.3", "python/krbrelay/*.py", "carrier/*.md", "carrier/man/*", "carrier/*/*.[ch]")
 OTHER_SIZES = re.compile(r"_tests/|/tests\.rt$|/krb_bench/|^carrier/(tests|simulation)/")
 NO_LIMITS = {"crates/krb_der/src/laws.rt": {65_000}, "carrier/OPERATION.md": {86_400}, "carrier/GUARANTEES.md": {1_024, 86_400},

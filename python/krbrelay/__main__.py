@@ -140,9 +140,10 @@ def asked_of(given: argparse.Namespace) -> why.Asked:
 def places(given: argparse.Namespace) -> Iterator[why.Place]:
     """The messages of all files. OSError, NoCapture."""
     for file in given.files:
-        found = why.places_of(read(file), file, given.find)
+        name = "standard input" if file == "-" else file
+        found = why.places_of(read(file), name, given.find)
         if found is None:
-            raise NoCapture(f"{file}: it is none of {spelt.FORMS}")
+            raise NoCapture(f"{name}: it is none of {spelt.FORMS}")
         yield from found
 
 
