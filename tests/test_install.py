@@ -137,7 +137,7 @@ def test_what_is_installed_is_what_is_removed(krbrelay, tmp_path):
         file.write("of the user\n")
     before = tree(folder)
     files = tool.install(folder, krbrelay, library_in(tmp_path / "library"))
-    assert len(files) == len(tool.FILES) + 4 and all(os.path.exists(os.path.join(folder, it)) for it in files)
+    assert len(files) == len(tool.FILES) + 5 and all(os.path.exists(os.path.join(folder, it)) for it in files)
     assert os.readlink(os.path.join(folder, "lib", "libkrbrelay.so")) == "libkrbrelay.so.1"
     whole = tree(folder)
     tool.install(folder, krbrelay)
@@ -145,6 +145,9 @@ def test_what_is_installed_is_what_is_removed(krbrelay, tmp_path):
     ran = subprocess.run([os.path.join(folder, "bin", "krbrelay"), "--version"], check=True,
                          stdout=subprocess.PIPE, text=True)
     assert ran.stdout == f"krbrelay {manual.version()}\n"
+    checked = subprocess.run([os.path.join(folder, "bin", "krbrelay-check-job"), "-"], input="capacity = 0\n", check=False,
+                             cwd=tmp_path, stdout=subprocess.PIPE, text=True, env={"PATH": os.environ["PATH"], "PYTHONDONTWRITEBYTECODE": "1"})
+    assert (checked.returncode, checked.stdout.splitlines()[0]) == (1, "standard input:1:12: bad input: capacity")
     os.remove(os.path.join(folder, "share/man/man1/krbrelay.1"))
     tool.uninstall(folder)
     assert tree(folder) == before, "the end leaves what was there"

@@ -174,12 +174,12 @@ OPENED = os.path.join(building.TOP, "examples", "open.toml")
 def test_a_job_that_passes():
     assert check_job(OPENED) == (0, f"{OPENED}: passes every check of krbrelay open\n", "")
     assert check_job("open", OPENED)[0] == 0
-    assert check_job("seal", OPENED)[0] == 2
+    assert check_job("seal", OPENED)[0] == 1
 
 
 def test_a_job_that_fails():
     status, out, _ = check_job("-", data=EXAMPLE.replace("etype = 18", "etype = 19"))
-    assert status == 2 and out.splitlines() == [
+    assert status == 1 and out.splitlines() == [
         "standard input:20:9: bad input: sender 1: etype", "  stands here:    19",
         "  may stand here: 17 or 18, the number of an encryption type (RFC 3962)"]
 

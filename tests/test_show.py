@@ -7,6 +7,7 @@ import sys
 
 import pytest
 
+from lib import typed
 from lib.build import building
 from oracle import fixtures, frames, fuzz_messages
 
@@ -97,6 +98,16 @@ def test_a_long_address(krbrelay, tmp_path, size):
     assert of_program[0] == 0 and " opened " in of_program[1]
     assert of_package == (of_program if size == 40 else (
         2, of_program[1].partition(" opened ")[0] + " refused 38 BADADDR\n", ""))
+
+
+@pytest.mark.parametrize("page", ["README.md", "docs/USE.md"])
+def test_the_first_command_of_a_page(krbrelay, page):
+    """As it is pasted, but over the program that is built here."""
+    first = typed.lines_of(page)[0]
+    assert first.command.startswith("tools/krbrelay show ")
+    done = subprocess.run(first.command.replace("tools/krbrelay", krbrelay, 1), shell=True, cwd=building.TOP,
+                          capture_output=True, text=True, check=False, timeout=60)
+    assert typed.are_printed(first.printed, done.stdout.splitlines()), done.stdout
 
 
 def test_a_text_on_the_command_line():

@@ -38,7 +38,7 @@ CALLS, PACKAGE = "crates/krb_c/src/message_calls.rt", "python/tests/test_library
 # Where the version stands: the file, the words around it, and what of it stands there. A symbol's
 # version is that of the library which brought it: its major number alone is compared.
 PLACES = [
-    ("README.md", r"^\*\*Version\*\*: (\S+),", "whole"),
+    ("README.md", r"^- \*\*Status\*\*: (\S+),", "whole"),
     ("crates/krb_program/src/command.rt", r'\.version\("(.*)"\)', "whole"),
     ("tests/kit/copied.py", r"echo krbrelay (\S+)", "whole"),
     (CALLS, r"^/// The version of the library: (\w+) is ", "packed"),
@@ -75,15 +75,16 @@ PLACES = [
     ("docs/C.md", r"Within major number (\d+)", "major"),
     ("docs/PYTHON.md", r"as \((\d+, \d+, \d+)\)", "listed"),
     ("docs/krbrelay.1", r'^\.TH KRBRELAY 1 \S+ "krbrelay (.*?)"', "whole"),
+    ("docs/krbrelay-check-job.1", r'^\.TH KRBRELAY\S+ 1 \S+ "krbrelay (.*?)"', "whole"),
     ("CONTRIBUTING.md", r"tag it: `krbrelay-(\S+)`", "whole"),
 ]
 OTHER_VERSION = "7.8.9"         # no part of which is one of a version here
 # Prose whose numbers of a thousand and more are limits, but for the limit before the present one.
 # Tests and benchmarks have other sizes.
-PROSE = ("crates/*/src/**/*.rt", HEADER, "docs/C.md", "docs/PYTHON.md", "docs/USE.md",
+PROSE = ("crates/*/src/**/*.rt", HEADER, "docs/C.md", "docs/PYTHON.md", "docs/USE.md", "docs/CRATES.md",
          PAGES + "/*.3", "python/krbrelay/*.py", "carrier/*.md", "carrier/man/*", "carrier/*/*.[ch]")
 OTHER_SIZES = re.compile(r"_tests/|/tests\.rt$|/krb_bench/|^carrier/(tests|simulation)/")
-NO_LIMITS = {"crates/krb_der/src/laws.rt": {65_000}, "carrier/README.md": {1_024, 86_400},
+NO_LIMITS = {"crates/krb_der/src/laws.rt": {65_000}, "carrier/OPERATION.md": {86_400}, "carrier/GUARANTEES.md": {1_024, 86_400},
              "carrier/sender/outbox.h": {10_000, 100_000}}
 WALKS = "CONTRIBUTING.md"
 SOURCES = ("tables/*", "crates/**/*", "python/**/*", "tools/**/*", "docs/*.md", "docs/*.1",
@@ -264,9 +265,9 @@ def version():
 def places():
     """Each place that says the version, of which the pages of the manual are one a page."""
     yield from PLACES
-    for path in sorted(it for place in (PAGES, "carrier/man") for it in glob.glob(os.path.join(building.TOP, place, "*.[378]"))):
+    for path in sorted(it for place in (PAGES, "carrier/man") for it in glob.glob(os.path.join(building.TOP, place, "*.[1378]"))):
         page = os.path.relpath(path, building.TOP)
-        yield page, r'^\.TH \S+ [378] \S+ "krbrelay (.*?)"', "whole"
+        yield page, r'^\.TH \S+ [1378] \S+ "krbrelay (.*?)"', "whole"
 
 
 def written():
@@ -388,7 +389,7 @@ def walk(heading):
 
 def named_files(text):
     """The paths of files that a text names in backquotes, or as docs/*.md."""
-    return set(re.findall(r"`([\w./-]+\.(?:rt|antt|h|c|py|rs|go|3|1|toml|json))`", text)
+    return set(re.findall(r"`([\w./-]+\.(?:rt|antt|h|c|py|rs|go|3|1|8|toml|json))`", text)
                + re.findall(r"\bdocs/\w+\.md", text))
 
 

@@ -1,11 +1,15 @@
 """The effects of --effect and of --put-aside over PostgreSQL, whose answers come later than the statements."""
+import contextlib
+import json
 import os
 import shutil
 import subprocess
 import tempfile
 
 import engines
+import psycopg2
 import pytest
+from test_put_get import carrier, ran
 from test_effects import Ends, both_programs, compiled, most_times, texts
 
 # A cast isn't a name, and nor is what is in quotes.
@@ -98,6 +102,21 @@ def test_a_table_that_is_not_there_puts_nothing_aside(ends):
     ends.server.ask(MINE.format(""))
     ends.to_the_end("--effect", STATEMENT, "--put-aside", "1")
     assert ends.texts_of("mine") == [b"one"] and ends.texts_of("aside") == []
+
+
+def test_texts_are_read_and_taken(ends):
+    """By a connection of psycopg2, in its transaction; and by krbrelay-get, which asks psql."""
+    ends.put([b"one", b"\xff'", b"three"])
+    ends.to_the_end()
+    with contextlib.closing(psycopg2.connect(ends.server.where)) as store:
+        assert [it.data for it in carrier.texts(store, session="tom")] == [b"one", b"\xff'", b"three"]
+        assert [it.data for it in carrier.take(store, 2)] == [b"one", b"\xff'"]
+        store.rollback()
+        status, printed, told = ran("get", "--store", ends.server.where, "--count", "2", "tom")
+        assert (status, told, [json.loads(it).get("data") for it in printed.splitlines()]) == (0, "", [None, "ff27"])
+        assert [it.data for it in carrier.take(store, 2)] == [b"one", b"\xff'"]
+        store.commit()
+        assert [(it.data, it.session) for it in carrier.take(store)] == [(b"three", "tom")]
 
 
 def test_a_server_that_is_away_puts_nothing_aside(ends):

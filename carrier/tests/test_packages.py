@@ -3,6 +3,8 @@ the rules and the dashboard of Prometheus their metrics, and the units how littl
 import json
 import os
 import re
+import subprocess
+import sys
 
 import pytest
 import sources as places
@@ -38,9 +40,49 @@ def test_the_manual_has_each_option(program):
     assert page_options(f"krbrelay-{program}") == usage_options(program)
 
 
+@pytest.mark.parametrize("name", ["all", "cluster", "demo", "demo_kerberos", "realm"])
+def test_a_script_says_what_its_head_says(name, tmp_path):
+    """And does nothing else."""
+    head = re.match(r"#!.*\n((?:#.*\n)+)", text_of(name))[1]
+    done = subprocess.run([os.path.join(SOURCES, name), "--help"], cwd=tmp_path, check=True, capture_output=True, text=True)
+    assert (done.stdout, done.stderr) == (re.sub(r"(?m)^# ?", "", head), "") and not os.listdir(tmp_path)
+
+
+@pytest.mark.parametrize("name", ["put", "get"])
+def test_the_manual_of_put_and_get_has_each_option(name):
+    words = [sys.executable, os.path.join(SOURCES, "../python/krbrelay/carrier.py"), name, "--help"]
+    said = subprocess.run(words, check=True, stdout=subprocess.PIPE, text=True).stdout
+    named = set(OPTION.findall(said.partition("options:")[2]))
+    lines = re.findall(r"^\.TP\n\.B (.*)$", text_of(f"man/krbrelay-{name}.1"), re.M)
+    assert {it for line in lines for it in OPTION.findall(line.replace("\\", ""))} == named - {"--help"} and len(named) > 3
+
+
 def test_the_manual_of_status_has_each_option():
     said = re.findall(r"^  (--.*)$", text_of("status").split('"""')[1], re.M)
     assert page_options("krbrelay-status") == {it for line in said for it in OPTION.findall(line.split("  ")[0])}
+
+
+# The calls by which an event is logged, and its name, or two.
+LOGS = re.compile(r'\b(?:log_fact|log_system|log_report|log_numbers|report_answer|kerberos_report|shard_report|print)'
+                  r'\((?:&?\w+(?:->\w+)*, )?(?:[^"();]*\? )?"([a-z_]+)"(?: : "([a-z_]+)")?')
+OWN = {"sender": ("sender",), "receiver": ("receiver", "effects", "stores")}
+
+
+def test_the_manual_has_each_event():
+    """Each event of the sources is on a page, and one of a program's own folders on its page; no other is. So is each
+    reason of a refused opening."""
+    by_folder, said = {}, {}
+    for path in places.all_of():
+        events = {it for pair in LOGS.findall(text_of(os.path.basename(path))) for it in pair if it}
+        by_folder.setdefault(os.path.basename(os.path.dirname(path)), set()).update(events)
+    for program, folders in OWN.items():
+        page = text_of(f"man/krbrelay-{program}.8").partition(".SH DIAGNOSTICS")[2]
+        said[program] = set(re.findall(r"^\.B ([a-z_]+)$", page, re.M))
+        own = set().union(*(by_folder[it] for it in folders))
+        assert len(own) > 10 and own <= said[program], own - said[program]
+    assert set().union(*by_folder.values()) == set().union(*said.values())
+    reasons = set(re.findall(r"^    X\((\w+)\) /\*", text_of("opening.h"), re.M))
+    assert set(re.findall(r"^\.B OPENING_(\w+)$", text_of("man/krbrelay-receiver.8"), re.M)) == reasons and len(reasons) > 10
 
 
 def metrics():

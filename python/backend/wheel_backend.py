@@ -16,6 +16,7 @@ import zipfile
 
 TOP = os.path.dirname(os.path.dirname(os.path.realpath(__file__)))
 PACKAGE = "krbrelay"
+LICENCES = "LICENSE", "LICENSE-APACHE", "LICENSE-MIT", "LICENSE-KIT"
 LIBRARY = "libkrbrelay.so.1"
 OBJECTS = (LIBRARY, f"glibc-hwcaps/x86-64-v3/{LIBRARY}")    # in a folder of libraries
 WHEEL = """\
@@ -46,12 +47,18 @@ def listed(key):
     return re.findall(r'"(.*?)"', found[1]) if found else []
 
 
-def license_path():
-    """The licence, beside the project in its sdist, and above it in its repository."""
+def licence_folder():
+    """Where the licence's files are: beside the project in its sdist, and above it in its
+    repository."""
     for folder in (TOP, os.path.dirname(TOP)):
-        if os.path.exists(os.path.join(folder, "LICENSE")):
-            return os.path.join(folder, "LICENSE")
-    raise FileNotFoundError(f"there is no LICENSE in {TOP} nor above it")
+        if all(os.path.exists(os.path.join(folder, it)) for it in LICENCES):
+            return folder
+    raise FileNotFoundError(f"there is no LICENSE in {TOP} nor above it, or not all of it")
+
+
+def licences():
+    folder = licence_folder()
+    return {it: text_of(os.path.join(folder, it)).encode() for it in LICENCES}
 
 
 def metadata():
@@ -86,7 +93,7 @@ def shared_objects(folder):
 
 def notices():
     """The licences of what is compiled into the library, by their names in the wheel."""
-    folder = os.path.join(os.path.dirname(license_path()), "licences")
+    folder = os.path.join(licence_folder(), "licences")
     for name in sorted(os.listdir(folder)) if os.path.isdir(folder) else ():
         with open(os.path.join(folder, name), "rb") as file:
             yield f"{PACKAGE}-{project()['version']}.dist-info/licences/{name}", file.read()
@@ -101,8 +108,7 @@ def recorded(name, content):
 def write_wheel(wheel_directory, files, platform="any"):
     """Writes the wheel with these files and what describes them, and gives its name."""
     stem = f"{PACKAGE}-{project()['version']}"
-    with open(license_path(), "rb") as file:
-        files[f"{stem}.dist-info/LICENSE"] = file.read()
+    files.update((f"{stem}.dist-info/{name}", text) for name, text in licences().items())
     files[f"{stem}.dist-info/METADATA"] = metadata().encode()
     is_pure = str(platform == "any").lower()
     files[f"{stem}.dist-info/WHEEL"] = WHEEL.format(is_pure, platform).encode()
@@ -134,8 +140,7 @@ def build_sdist(sdist_directory, config_settings=None):
     names = "pyproject.toml", "README.md", "backend/wheel_backend.py"
     files = {part: text_of(part).encode() for part in names}
     files.update(sources())
-    with open(license_path(), "rb") as file:
-        files["LICENSE"] = file.read()
+    files.update(licences())
     files["PKG-INFO"] = metadata().encode()
     time = int(os.environ.get("SOURCE_DATE_EPOCH", 0))
     with open(os.path.join(sdist_directory, f"{stem}.tar.gz"), "wb") as file, \

@@ -123,6 +123,15 @@ class TwoEnds(unittest.TestCase):
                              file.read())
         self.assertIn("".join(f"    {line}\n" for line in self.PRINTED.splitlines()), page)
 
+    def test_the_block_of_the_readme(self):
+        """It runs as it is pasted, and prints what stands below it."""
+        with open(os.path.join(TOP, "README.md"), encoding="utf-8") as file:
+            block, printed = re.search(r"^```python\n((?:.*\n)*?)```\n\n((?:    .*\n)+)", file.read(), re.M).groups()
+        done = subprocess.run([sys.executable, "-c", block], capture_output=True, text=True,
+                              env={**os.environ, "PYTHONPATH": PYTHON}, stdin=subprocess.DEVNULL)
+        self.assertEqual((done.returncode, done.stderr), (0, ""))
+        self.assertEqual(done.stdout, re.sub("(?m)^    ", "", printed))
+
     def test_over_asyncio(self):
         self.assertEqual(ran("two_ends_asyncio.py"), (0, self.BY_ASYNCIO, ""))
         with open(os.path.join(TOP, "docs", "PYTHON.md"), encoding="utf-8") as file:

@@ -38,7 +38,8 @@ class Sources(unittest.TestCase):
             ast.parse(text_of(path), path, feature_version=(3, 9))
 
     def test_they_need_the_interpreter_alone(self):
-        """What is imported is the package's own, or there in an interpreter with no packages."""
+        """What is imported is the package's own, or there in an interpreter with no packages; of one
+        example, which says so, Debian's python3-gssapi."""
         names = set()
         for path in SOURCES:
             for node in ast.walk(ast.parse(text_of(path))):
@@ -46,7 +47,7 @@ class Sources(unittest.TestCase):
                     names.update(it.name for it in node.names)
                 elif isinstance(node, ast.ImportFrom):
                     names.add(node.module)
-        others = sorted(it for it in names if it.split(".")[0] != "krbrelay")
+        others = sorted(it for it in names if it.split(".")[0] not in ("krbrelay", "gssapi"))
         ran = subprocess.run([sys.executable, "-I", "-S", "-c", "import " + ", ".join(others)],
                              capture_output=True, text=True)
         self.assertEqual((ran.returncode, ran.stderr), (0, ""))
@@ -100,7 +101,8 @@ def copy_to(folder):
     """A copy of the project in a folder, with the licence above it."""
     copied = os.path.join(folder, "python")
     shutil.copytree(PYTHON, copied, ignore=shutil.ignore_patterns("__pycache__", "tests"))
-    shutil.copy(os.path.join(TOP, "LICENSE"), folder)
+    for path in glob.glob(os.path.join(TOP, "LICENSE*")):
+        shutil.copy(path, folder)
     return copied
 
 
@@ -124,7 +126,8 @@ class Building(unittest.TestCase):
                 stem = f"krbrelay-{krbrelay.__version__}"
                 names = {name.partition("/")[2] for name in archive.getnames()}
                 described = archive.extractfile(f"{stem}/PKG-INFO").read().decode()
-        self.assertLessEqual({"LICENSE", "PKG-INFO", "README.md", "backend/wheel_backend.py",
+        self.assertLessEqual({"LICENSE", "LICENSE-APACHE", "LICENSE-KIT", "LICENSE-MIT",
+                              "PKG-INFO", "README.md", "backend/wheel_backend.py",
                               "krbrelay/__init__.py", "krbrelay/py.typed", "pyproject.toml"}, names)
         self.assertIn(f"\nVersion: {krbrelay.__version__}\n", described)
 
@@ -143,7 +146,7 @@ class Building(unittest.TestCase):
     def test_no_wheel_is_built_without_the_licence(self):
         with tempfile.TemporaryDirectory() as folder:
             copied = copy_to(folder)
-            os.remove(os.path.join(folder, "LICENSE"))
+            os.remove(os.path.join(folder, "LICENSE-MIT"))
             with self.assertRaises(subprocess.CalledProcessError):
                 built(copied, "build_wheel")
             self.assertEqual(glob.glob(os.path.join(folder, "**", "*.whl"), recursive=True), [])
@@ -169,6 +172,7 @@ class Installing(unittest.TestCase):
             self.assertIn("Typing :: Typed", described.get_all("Classifier"))
             self.assertIn("# krbrelay\n", described.get_payload() or described["Description"])
             self.assertIn("SPDX-License-Identifier", found.read_text("LICENSE"))
+            self.assertIn("Version 2.0, January 2004", found.read_text("LICENSE-APACHE"))
 
     def test_an_editable_install_is_the_folder(self):
         with tempfile.TemporaryDirectory() as folder:

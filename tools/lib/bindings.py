@@ -14,7 +14,7 @@ MINUTES = 20
 SYSTEM = "/usr/sbin:/usr/bin:/sbin:/bin"
 # What builds the library, what says of it and whose it is, and the program that the tests talk to.
 TAKEN = ("Makefile", "heap.c", "krbrelay.h", "krbrelay.map", "unproved/", "krbrelay-x86_64.s",
-         "krbrelay-aarch64.s", "LICENSE", "licences/", "VERSION", "README.md", "CHANGELOG.md",
+         "krbrelay-aarch64.s", "LICENSE", "LICENSE-APACHE", "LICENSE-MIT", "LICENSE-KIT", "licences/", "VERSION", "README.md", "CHANGELOG.md",
          "SECURITY.md", "examples/echo.c", "examples/two_ends.c")
 
 

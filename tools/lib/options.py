@@ -11,7 +11,8 @@ class Parser(argparse.ArgumentParser):
     """The parser of a tool with this docstring, which takes these words, or one of them alone (`form`)."""
 
     def __init__(self, doc, *forms, needs_one=False):
-        super().__init__(prog=os.path.relpath(sys.argv[0], building.TOP), allow_abbrev=False)
+        name = os.path.relpath(sys.argv[0], building.TOP)
+        super().__init__(prog=os.path.basename(name) if name.startswith("..") else name, allow_abbrev=False)
         self.doc = doc
         group = self.add_mutually_exclusive_group(required=needs_one)
         for form in forms:

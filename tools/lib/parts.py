@@ -25,6 +25,8 @@ SERVERS = ("Debian's nats-server, libnats-dev, postgresql, libpq-dev, libmicroht
            " libsystemd-dev")
 JAVA = "Debian's libjna-java and default-jdk-headless"
 PROMETHEUS = "Debian's prometheus, systemd and strace"
+PSYCOPG = "Debian's python3-psycopg2"
+DUMPCAP = "Debian's wireshark-common and python3-gssapi"
 REALM = "Debian's krb5-kdc, krb5-admin-server, krb5-kpropd and krb5-user"
 CROSS = "Debian's gdb, gcc-aarch64-linux-gnu, libc6-dev-arm64-cross and qemu-user-static"
 PACKAGING = ("Debian's debhelper, dh-python, dpkg-dev, lintian, isa-support and debootstrap, and"
@@ -58,6 +60,8 @@ IS_THERE = {
     PYTEST: lambda: has("pytest"),
     MIT: lambda: runs("pkg-config", "--exists", "mit-krb5"),
     HEIMDAL: lambda: runs("pkg-config", "--exists", "heimdal-krb5"),
+    PSYCOPG: lambda: runs("python3", "-c", "import psycopg2"),
+    DUMPCAP: lambda: has("dumpcap") and runs("/usr/bin/python3", "-c", "import gssapi"),
     REALM: lambda: all(shutil.which(it, path="/usr/sbin:/usr/bin:/sbin:/bin") for it in
                        ("krb5kdc", "kadmind", "kpropd", "kprop", "kpasswd", "kadmin.local")),
     CROSS: lambda: has("gdb") and has("aarch64-linux-gnu-gcc") and has("qemu-aarch64-static")
@@ -128,6 +132,7 @@ PARTS = [
     Part("pytest carrier/tests/test_statements.py", 1, (PYTEST,), over=()),
     Part("pytest carrier/tests/test_packages.py", 1, (PYTEST,), over=()),
     Part("pytest carrier/tests/test_effects.py", 10, (PYTEST, "rt", COMPILER, MAKE, SQLITE), LIBRARY.command, over=()),
+    Part("pytest carrier/tests/test_put_get.py", 5, (PYTEST, "rt", COMPILER, MAKE, SQLITE), LIBRARY.command, over=()),
     Part("pytest carrier/tests/test_left.py", 5, (PYTEST, "rt", COMPILER, CRYPTOGRAPHY, MAKE, SQLITE), LIBRARY.command, over=()),
     Part("pytest carrier/tests/test_simulation.py", 20, (PYTEST, "rt", COMPILER, MAKE, SQLITE), LIBRARY.command, over=()),
     Part("pytest carrier/tests/test_simulation_model.py", 2, (PYTEST, "rt", COMPILER, MAKE), LIBRARY.command, over=()),
@@ -172,8 +177,8 @@ MORE = [
     Part("tools/release --check", 90, ("rt", COMPILER, CRYPTOGRAPHY, MAKE, PKG_CONFIG, PACKAGING, SERVERS, MIT, CROSS,
                                        CARGO, GO), "tools/debian --check"),
     Part("python/test --all", 20, (COMPILER, CRYPTOGRAPHY)),
-    Part("kerberos/test", 75, ("rt", COMPILER, MIT, HEIMDAL, REALM)),
-    Part("pytest carrier/tests/test_effects_postgresql.py", 20, (PYTEST, "rt", COMPILER, MAKE, SQLITE, SERVERS)),
+    Part("kerberos/test", 75, ("rt", COMPILER, MIT, HEIMDAL, REALM, DUMPCAP)),
+    Part("pytest carrier/tests/test_effects_postgresql.py", 20, (PYTEST, "rt", COMPILER, MAKE, SQLITE, SERVERS, PSYCOPG)),
     Part("pytest carrier/tests/test_prometheus.py", 10, (PYTEST, "rt", COMPILER, MAKE, SQLITE, SERVERS, PROMETHEUS)),
     Part("carrier/test --all", 60, (PROGRAM, "rt", COMPILER, "clang", MAKE, SQLITE, SERVERS,
                                        MIT, REALM)),

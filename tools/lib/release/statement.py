@@ -17,7 +17,7 @@ from lib.release import attested, places
 from lib.release.places import SUMS, files_of, name_of
 
 FORM = 2
-LISTS = {"assumed": ("README.md", "## The promise, exactly\n"),     # the premises of the headline
+LISTS = {"assumed": ("docs/PROVED.md", "## What is assumed\n"),     # the premises of the headline
          "only_tested": ("docs/PROVED.md", "## What is only tested\n"),
          "trusted": ("docs/PROVED.md", "## What is trusted\n")}
 PROVED = "proved/"          # where the tarball has the sources, definitions and proofs
