@@ -29,7 +29,7 @@ WHEELS = [f"python/{NAME}-py3-none-manylinux_2_25_{machine}.whl" for machine in 
 WHEEL, ORIG = WHEELS[0], f"debian/krbrelay_{VERSION}.orig.tar.gz"
 DEBS = [f"debian/{name}_{VERSION}-1_{machine}.deb" for name, machine in (
     ("krbrelay", "amd64"), ("krbrelay-carrier", "amd64"), ("libkrbrelay1", "amd64"), ("libkrbrelay-dev", "amd64"),
-    ("python3-krbrelay", "all"))]
+    ("krbrelay-preload", "amd64"), ("python3-krbrelay", "all"))]
 PLAIN = ("README.md", f"{NAME}-vectors.json.gz", f"{NAME}-vectors.schema.json", f"{NAME}-vectors.README.md",
          *(f"debian/krbrelay_{VERSION}-1{end}" for end in (".dsc", ".debian.tar.xz", "_amd64.buildinfo")))
 OTHERS = (f"python/{NAME}.tar.gz", f"{NAME}-reference.tar.gz")
@@ -543,8 +543,17 @@ def test_a_signature(folder, tmp_path):
     assert any("is of none of the signers" in it for it in verifying.by_hashes(folder, signers))
 
 
+def test_what_a_release_needs_is_looked_for_first(monkeypatch):
+    tool = scripts.load("release")
+    monkeypatch.setattr(tool, "NEEDED", ("sh", "no-such-compiler", "/no/such/header.h"))
+    monkeypatch.setenv("PATH", "/usr/bin:/bin")
+    with pytest.raises(SystemExit, match="not here: no-such-compiler, /no/such/header.h"):
+        tool.make("nowhere")
+
+
 def test_a_release_is_of_a_commit(monkeypatch):
     tool = scripts.load("release")
+    monkeypatch.setattr(tool, "lacking", list)
     monkeypatch.setattr(statement, "commit", lambda: HEAD + " and changes")
     with pytest.raises(SystemExit, match="a release is of a commit"):
         tool.make("nowhere")
