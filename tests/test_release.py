@@ -12,7 +12,7 @@ import zipfile
 
 import pytest
 
-from lib import scripts
+from lib import bindings, pages_inside, scripts
 from lib.build import building, ci, over_gate
 from lib.release import attested, places, statement, verifying
 
@@ -557,6 +557,27 @@ def test_a_release_is_of_a_commit(monkeypatch):
     monkeypatch.setattr(statement, "commit", lambda: HEAD + " and changes")
     with pytest.raises(SystemExit, match="a release is of a commit"):
         tool.make("nowhere")
+
+
+# ---- pages
+
+def test_links_lead_to_what_is_inside():
+    """Of the tarball, and of what the Rust crate takes of it."""
+    places = dist.sources()
+    files = {place: statement.bytes_of(building.TOP, path) for place, path in places.items()}
+    assert len(list(pages_inside.dead(files))) > 50
+    files |= pages_inside.pages({path: place for place, path in places.items()}, building.text_of)
+    assert list(pages_inside.dead(files)) == [] and b"](../README.md#build-and-link)" in files["kerberos/KERBEROS.md"]
+    assert not any(b"c/library --install" in it for place, it in files.items() if place.endswith(".md"))
+    taken = {it: it for it in files if it in bindings.TAKEN}
+    inside = pages_inside.pages(taken, lambda it: files[it].decode())
+    assert len(inside) > 2 and list(pages_inside.dead({it: files[it] for it in taken} | inside)) == []
+
+
+def test_what_only_the_repository_has_is_left_out():
+    text = "a [b](../c.md#d) [e](f.md) [g](https://h)\n\n## In the repository\n\ni\n\n## After\n"
+    assert pages_inside.page(text, "k/l.md", {"k/l.md": "l.md", "k/f.md": "m/f.md"}) == (
+        "a b [e](m/f.md) [g](https://h)\n\n## After\n")
 
 
 # ---- what the prover says

@@ -3,6 +3,8 @@ the rules and the dashboard of Prometheus their metrics, and the units how littl
 import json
 import os
 import re
+import shutil
+import subprocess
 
 import pytest
 import sources as places
@@ -41,6 +43,19 @@ def test_the_manual_has_each_option(program):
 def test_the_manual_of_status_has_each_option():
     said = re.findall(r"^  (--.*)$", text_of("status").split('"""')[1], re.M)
     assert page_options("krbrelay-status") == {it for line in said for it in OPTION.findall(line.split("  ")[0])}
+
+
+@pytest.mark.parametrize("words", [
+    ["bash", "-c", '. "$0"; COMP_WORDS=(krbrelay-status -); COMP_CWORD=1; _krbrelay_carrier krbrelay-status; echo "${COMPREPLY[@]}"', "carrier.bash"],
+    ["fish", "--no-config", "-c", 'source $argv[1]; complete -C "krbrelay-status -"', "carrier.fish"]])
+def test_completions_have_each_option(words, tmp_path):
+    if shutil.which(words[0]) is None:
+        pytest.skip(f"{words[0]} isn't installed")
+    os.symlink(os.path.join(SOURCES, "status"), tmp_path / "krbrelay-status")
+    given = {"PATH": f"{tmp_path}:{os.environ['PATH']}", "HOME": str(tmp_path)}
+    words = [*words[:-1], os.path.join(SOURCES, "completions", words[-1])]
+    said = subprocess.run(words, check=True, stdout=subprocess.PIPE, text=True, env=given, cwd=tmp_path).stdout
+    assert set(said.split()) == page_options("krbrelay-status")
 
 
 def metrics():
