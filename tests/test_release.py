@@ -14,6 +14,7 @@ import pytest
 
 from lib import bindings, pages_inside, scripts
 from lib.build import building, ci, over_gate
+from lib.reference import claims
 from lib.release import attested, places, statement, verifying
 
 dist = scripts.load("c/dist")
@@ -80,6 +81,7 @@ def put(folder, path, data):
         file.write(data)
 
 
+CLAIM = f"{0x2b:032x} {0x2c:032x}"
 CLAUSES = {"krb_peers": ["frames_laws.headline"], CRATE: ["lane.none", "lane.all"]}
 VERDICTS = {crate: ci.Verdict(7, 1) for crate in building.table()}
 HEAD = subprocess.run(["git", "-C", building.TOP, "rev-parse", "HEAD"], check=True, stdout=subprocess.PIPE,
@@ -126,7 +128,7 @@ def of_this_machine(patch):
     patch.setattr(statement, "kit", lambda: "kit-of-the-test")
     patch.setattr(statement, "kit_files", lambda: {"rattle": "ab" * 32})
     patch.setattr(statement, "commit", lambda: HEAD)
-    patch.setattr(statement, "clauses", lambda: {crate: {it: statement.sha256(it.encode()) for it in words}
+    patch.setattr(statement, "clauses", lambda: {crate: {it: CLAIM for it in words}
                                                  for crate, words in CLAUSES.items()})
 
 
@@ -345,7 +347,7 @@ def no_crates(told):
 def more_functions(told):
     for it in told["crates"].values():
         it["functions"] *= 10
-        it["clauses"]["made_up.is_constant_time"] = "0" * 64
+        it["clauses"]["made_up.is_constant_time"] = CLAIM
 
 
 X86 = "krbrelay-x86_64.s"
@@ -441,7 +443,9 @@ def test_what_is_stated(made):
 def test_clauses_have_the_digest_of_their_text():
     named = statement.clauses()
     assert len(named["krb_peers"]) > 50
-    assert all(len(it) == 64 for crate in named.values() for it in crate.values())
+    assert all(verifying.CLAIM(it) for crate in named.values() for it in crate.values())
+    listed = claims.read(building.text_of("docs/reference/claims.txt"))
+    assert named["krb_peers"]["frames_laws.headline"] == " ".join(listed["claim", "krb_peers", "frames_laws", "ensures", "headline"])
 
 
 def test_the_checkout_is_compared(made, monkeypatch):
@@ -483,8 +487,8 @@ STATEMENTS = {
     "functions of a crate are more": of_crate(functions=99),
     "a crate less": lambda told: told["crates"].pop(CRATE),
     "no crate at all": lambda told: told["crates"].clear(),
-    "clauses made up": lambda told: told["crates"][CRATE]["clauses"].update(none="0" * 64),
-    "another clause's text": lambda told: told["crates"][CRATE]["clauses"].update({"lane.none": "0" * 64}),
+    "clauses made up": lambda told: told["crates"][CRATE]["clauses"].update(none=CLAIM),
+    "another clause's text": lambda told: told["crates"][CRATE]["clauses"].update({"lane.none": CLAIM.replace("b", "f")}),
     "clauses taken away": lambda told: [it.update(clauses={}) for it in told["crates"].values()],
     "a crate stands on nothing": lambda told: told["crates"]["krb_peers"].update(stands_on=[]),
     "nothing is trusted": lambda told: told["trusted"].clear(),
