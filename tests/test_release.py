@@ -440,6 +440,14 @@ def test_what_is_stated(made):
     assert spdx["spdxVersion"] == "SPDX-2.3" and {it["name"] for it in spdx["packages"]} > {"sha1", "std", *told["artefacts"]}
 
 
+def test_the_tarball_has_the_source_of_each_clause():
+    inside = {place: statement.bytes_of(building.TOP, path) for place, path in dist.sources().items() if place.startswith("proved/")}
+    named = statement.clauses()
+    told = {"version": VERSION, "proved_code": {}, "sources": {it.removeprefix("proved/"): statement.sha256(data) for it, data in inside.items()},
+            "crates": {crate: {"stands_on": deps, "clauses": named.get(crate, {})} for crate, (_, deps) in building.table().items()}}
+    assert len(named) > 25 and list(verifying.inside_tarball(inside, told)) == []
+
+
 def test_clauses_have_the_digest_of_their_text():
     named = statement.clauses()
     assert len(named["krb_peers"]) > 50

@@ -46,7 +46,7 @@ krbrelay-status --outbox outbox.db --store sqlite:store.db | grep ^tom
 python3 -c '""" + SHOWS + """'
 """
 CARRIED = [r"tom-7 +0 +4 +4 +4 +0 +0 +4 +closed.*", "one two"]
-DEMO = "/usr/share/doc/krbrelay-carrier/examples/demo | tail -n 2"
+DEMO = "/usr/share/doc/krbrelay-carrier/examples/demo 2> /dev/null | tail -n 2"
 DELIVERED = [f"{name}: 20000 texts, closed, in order, each once" for name in ("ann", "tom")]
 COMPLETED = """. /usr/share/bash-completion/completions/krbrelay-sender; COMP_WORDS=(krbrelay-sender --out); COMP_CWORD=1
 _krbrelay_carrier krbrelay-sender; echo "${COMPREPLY[@]}"
