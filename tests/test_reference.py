@@ -391,7 +391,8 @@ def test_claims():
     every = promises.all_pages(project)[3:]
     found = claims.rows(project, every)
     clauses = [block for page in every for block in page.blocks if isinstance(block, pages.ClauseBlock)]
-    assert sum(len(it) // 2 for row, it in found.items() if row[0] == "claim" and row[3] != "signature") == len(clauses) > 1000
+    of_clauses = [it for row, it in found.items() if row[0] == "claim" and row[3] != "signature"]
+    assert sum(len(it) // 2 for it in of_clauses) == len(clauses) > 1000
     assert claims.read(claims.written(found)) == found
     headline = ("claim", "krb_peers", "frames_laws", "ensures", "headline")
     module = project.crates["krb_seal"].modules["Opens"]
@@ -404,7 +405,8 @@ def test_claims():
     less = {row: it for row, it in found.items() if row != headline}
     assert list(claims.changes(found, less)) == [f"{' '.join(headline)} is gone"]
     assert list(claims.changes(less, less | {headline: ("0", "1")})) == [f"{' '.join(headline)} is new"]
-    assert list(claims.changes(found, found | {headline: ("0", found[headline][1])})) == [f"{' '.join(headline)}: its text is another one"]
+    other = found | {headline: ("0", found[headline][1])}
+    assert list(claims.changes(found, other)) == [f"{' '.join(headline)}: its text is another one"]
 
 
 def test_checks():

@@ -441,10 +441,12 @@ def test_what_is_stated(made):
 
 
 def test_the_tarball_has_the_source_of_each_clause():
-    inside = {place: statement.bytes_of(building.TOP, path) for place, path in dist.sources().items() if place.startswith("proved/")}
-    named = statement.clauses()
-    told = {"version": VERSION, "proved_code": {}, "sources": {it.removeprefix("proved/"): statement.sha256(data) for it, data in inside.items()},
-            "crates": {crate: {"stands_on": deps, "clauses": named.get(crate, {})} for crate, (_, deps) in building.table().items()}}
+    inside = {place: statement.bytes_of(building.TOP, path) for place, path in dist.sources().items()
+              if place.startswith("proved/")}
+    named, table = statement.clauses(), building.table()
+    told = {"version": VERSION, "proved_code": {},
+            "sources": {it.removeprefix("proved/"): statement.sha256(data) for it, data in inside.items()},
+            "crates": {it: {"stands_on": deps, "clauses": named.get(it, {})} for it, (_, deps) in table.items()}}
     assert len(named) > 25 and list(verifying.inside_tarball(inside, told)) == []
 
 
@@ -453,7 +455,8 @@ def test_clauses_have_the_digest_of_their_text():
     assert len(named["krb_peers"]) > 50
     assert all(verifying.CLAIM(it) for crate in named.values() for it in crate.values())
     listed = claims.read(building.text_of("docs/reference/claims.txt"))
-    assert named["krb_peers"]["frames_laws.headline"] == " ".join(listed["claim", "krb_peers", "frames_laws", "ensures", "headline"])
+    headline = listed["claim", "krb_peers", "frames_laws", "ensures", "headline"]
+    assert named["krb_peers"]["frames_laws.headline"] == " ".join(headline)
 
 
 def test_the_checkout_is_compared(made, monkeypatch):

@@ -45,8 +45,13 @@ def test_the_manual_of_status_has_each_option():
     assert page_options("krbrelay-status") == {it for line in said for it in OPTION.findall(line.split("  ")[0])}
 
 
+ASK_BASH = """. "$0"; COMP_WORDS=(krbrelay-status -); COMP_CWORD=1
+_krbrelay_carrier krbrelay-status; echo "${COMPREPLY[@]}"
+"""
+
+
 @pytest.mark.parametrize("words", [
-    ["bash", "-c", '. "$0"; COMP_WORDS=(krbrelay-status -); COMP_CWORD=1; _krbrelay_carrier krbrelay-status; echo "${COMPREPLY[@]}"', "carrier.bash"],
+    ["bash", "-c", ASK_BASH, "carrier.bash"],
     ["fish", "--no-config", "-c", 'source $argv[1]; complete -C "krbrelay-status -"', "carrier.fish"]])
 def test_completions_have_each_option(words, tmp_path):
     if shutil.which(words[0]) is None:

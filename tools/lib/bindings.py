@@ -36,7 +36,8 @@ def take(sources, folder):
     if lacking:
         sys.exit(f"the tarball has no {', '.join(lacking)}")
     there = (os.path.relpath(os.path.join(at, name), sources) for at, _, names in os.walk(sources) for name in names)
-    copy({it: it for it in there if any(it == taken or taken[-1] == "/" and it.startswith(taken) for taken in TAKEN)}, sources, folder)
+    copy({it: it for it in there if any(it == taken or taken[-1] == "/" and it.startswith(taken) for taken in TAKEN)},
+         sources, folder)
 
 
 def copy(moved, top, folder):

@@ -34,7 +34,7 @@ def pages(moved, text_of):
 
 
 def dead(files):
-    """The links of an artefact's pages that lead nowhere: the page and what it names. `files` are their bytes by place."""
+    """The links of an artefact's pages that lead nowhere: the page and what it names. `files` are bytes by place."""
     for place, data in files.items():
         for link in LINK.finditer(data.decode()) if place.endswith(".md") else ():
             to = os.path.normpath(os.path.join(os.path.dirname(place), link[2]))

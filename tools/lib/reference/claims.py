@@ -50,7 +50,8 @@ def claims_of(graph: Graph, page: Page) -> Iterator[Tuple[Row, str, Iterable[Ref
         elif isinstance(block, ClauseBlock):
             yield ("claim", page.name, block.owner, block.kind, block.name or "-"), block.source.text, block.cites
         elif isinstance(block, Source) and block.label == "Types:":
-            yield ("claim", page.name, item, "signature", "-"), block.text, graph.of_text(page.name, block.text).values()
+            types = graph.of_text(page.name, block.text).values()
+            yield ("claim", page.name, item, "signature", "-"), block.text, types
 
 
 def key_of(claim: Row) -> str:

@@ -1,6 +1,6 @@
 """Tries a release's folder in a new Debian that has no kit: each artefact is installed by the command that the
-release's page has for it, as it is typed, runs its first example, and is removed. What a new system has besides is a compiler,
-make, pkg-config, Python, cargo, Go and systemd. It needs root and Debian's archive."""
+release's page has for it, as it is typed, runs its first example, and is removed. What a new system has besides is a
+compiler, make, pkg-config, Python, cargo, Go and systemd. It needs root and Debian's archive."""
 import contextlib
 import dataclasses
 import os
@@ -27,7 +27,8 @@ NOT_KEPT = ("/proc", "/sys", "/dev", "/run", "/tmp", HERE, "/var/cache", "/var/l
 SEALS = """\
 import sqlite3, sys
 with sqlite3.connect("outbox.db") as file:
-    file.executemany("INSERT INTO text (session, body) VALUES (?, ?)", [("tom-7", it) for it in (b"one", b"two", None)] + [("ann-1", None)])
+    file.executemany("INSERT INTO text (session, body) VALUES (?, ?)",
+                     [("tom-7", it) for it in (b"one", b"two", None)] + [("ann-1", None)])
 """
 SHOWS = """\
 import sqlite3
@@ -46,10 +47,11 @@ krbrelay-status --outbox outbox.db --store sqlite:store.db | grep ^tom
 python3 -c '""" + SHOWS + """'
 """
 CARRIED = [r"tom-7 +0 +4 +4 +4 +0 +0 +4 +closed.*", "one two"]
-DEMO = "/usr/share/doc/krbrelay-carrier/examples/demo 2> /dev/null | tail -n 2"
+EXAMPLES = "/usr/share/doc/krbrelay-carrier/examples"
+DEMO = f"{EXAMPLES}/demo 2> /dev/null | tail -n 2"
 DELIVERED = [f"{name}: 20000 texts, closed, in order, each once" for name in ("ann", "tom")]
-COMPLETED = """. /usr/share/bash-completion/completions/krbrelay-sender; COMP_WORDS=(krbrelay-sender --out); COMP_CWORD=1
-_krbrelay_carrier krbrelay-sender; echo "${COMPREPLY[@]}"
+COMPLETED = """. /usr/share/bash-completion/completions/krbrelay-sender
+COMP_WORDS=(krbrelay-sender --out); COMP_CWORD=1; _krbrelay_carrier krbrelay-sender; echo "${COMPREPLY[@]}"
 """
 # What a program does that MIT's library signs a message for, by Python's ctypes.
 SIGNS = """\
@@ -129,11 +131,12 @@ def rows(version):
             f"{AT}/env/bin/pip uninstall -qy krbrelay && rm -r {AT}/env {tree}"),
         Row("Rust", f"cp {AT}/rust/krbrelay-{version}/examples/two_ends.rs src/main.rs && cargo run -q --offline", OPENED,
             f"rm -r {AT}/rust/krbrelay-{version} {USER}", f"cargo new -q --vcs none {USER}"),
-        Row("Go", f"cat > main.go <<'END'\n{GO_PROGRAM}END\ngo run .", ["hello <nil>"], f"rm -r {AT}/krbrelay-go-{version} {USER}",
-            f"mkdir {USER} && cd {USER} && go mod init user"),
-        Row("senders and receivers over a queue, on", CARRIES % "/usr/share/doc/krbrelay-carrier/examples" + f"bash -c '{COMPLETED}'\n{DEMO}\n",
+        Row("Go", f"cat > main.go <<'END'\n{GO_PROGRAM}END\ngo run .", ["hello <nil>"],
+            f"rm -r {AT}/krbrelay-go-{version} {USER}", f"mkdir {USER} && cd {USER} && go mod init user"),
+        Row("senders and receivers over a queue, on", CARRIES % EXAMPLES + f"bash -c '{COMPLETED}'\n{DEMO}\n",
             [*CARRIED, "--outbox", *DELIVERED], purge("krbrelay-carrier", "libkrbrelay1")),
-        Row("programs over MIT's libkrb5", f"cat > signs.py <<'END'\n{SIGNS}END\n{PRELOADED}", SIGNED, purge("krbrelay-preload", "libkrbrelay1")),
+        Row("programs over MIT's libkrb5", f"cat > signs.py <<'END'\n{SIGNS}END\n{PRELOADED}", SIGNED,
+            purge("krbrelay-preload", "libkrbrelay1")),
         Row("the same, elsewhere", CARRIES % f"{tree}/carrier/systemd", CARRIED,
             f"make -s -C {tree}/carrier uninstall PREFIX=/usr/local && make -s -C {tree} uninstall PREFIX=/usr/local && rm -r {tree}"
             f" && {purge('libsqlite3-dev')}", f"apt-get install libsqlite3-dev && {library}"),
@@ -150,8 +153,9 @@ def commands(folder, version):
     found = {}
     for row in ROW.finditer(text):
         first, *more = re.findall(r"`([^`]+)`", row["how"]) or [""]
-        reads = re.findall(r"`([^`]+)`", row["read"]) + [f"man -w {n} {it}" for it, n in re.findall(r"([\w-]+)\((\d)\)", row["read"])]
-        found[row["what"].strip()] = [(AT, first), *((USER, it) for it in more), *((AT, it) for it in reads)]
+        pages = [f"man -w {section} {name}" for name, section in re.findall(r"([\w-]+)\((\d)\)", row["read"])]
+        found[row["what"].strip()] = [(AT, first), *((USER, it) for it in more),
+                                      *((AT, it) for it in re.findall(r"`([^`]+)`", row["read"]) + pages)]
     return found
 
 
@@ -187,7 +191,7 @@ def new_system(count):
         subprocess.run(["mount", "-t", "proc", "proc", os.path.join(root, "proc")], check=True)
         try:
             system = System(root)
-            system.run(f"rm -f /etc/dpkg/dpkg.cfg.d/* && echo '{APT}' > /etc/apt/apt.conf.d/90trial && apt-get update", "/tmp")
+            system.run(f"rm -f /etc/dpkg/dpkg.cfg.d/*; echo '{APT}' > /etc/apt/apt.conf.d/90trial; apt-get update", "/tmp")
             good, said = system.run(f"apt-get install {' '.join(BESIDES)}", "/tmp")
             count.told(good, f"what a user has besides: {' '.join(BESIDES)}", said[-5:])
             yield system
