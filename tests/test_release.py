@@ -578,10 +578,10 @@ def test_a_release_is_of_a_commit(monkeypatch):
 
 def test_links_lead_to_what_is_inside():
     """Of the tarball, and of what the Rust crate takes of it."""
-    places = dist.sources()
-    files = {place: statement.bytes_of(building.TOP, path) for place, path in places.items()}
+    files = {place: statement.bytes_of(building.TOP, path) for place, path in dist.sources().items()}
     assert len(list(pages_inside.dead(files))) > 50
-    files |= pages_inside.pages({path: place for place, path in places.items()}, building.text_of)
+    files = dist.of_repository()
+    assert b"\n## Unreleased\n" not in files["CHANGELOG.md"] and f"\n## {VERSION}\n".encode() in files["CHANGELOG.md"]
     assert list(pages_inside.dead(files)) == [] and b"](../README.md#build-and-link)" in files["kerberos/KERBEROS.md"]
     assert not any(b"c/library --install" in it for place, it in files.items() if place.endswith(".md"))
     taken = {it: it for it in files if it in bindings.TAKEN}
