@@ -258,6 +258,16 @@ func TestEachDemandIsMade(t *testing.T) {
 	}
 }
 
+func TestALiteralDemandsATime(t *testing.T) {
+	for optional, wanted := range map[bool]error{false: krbrelay.ErrSkew, true: nil} {
+		literal := krbrelay.Expect{Mode: krbrelay.Safe, Sender: sender, Receiver: receiver, Skew: 300, OptionalTime: optional}
+		opener := must[*krbrelay.Opener](t)(krbrelay.NewOpener(17, key128, literal))
+		if _, err := opener.Unseal(frames(t)["safe 17, neither"], 7, then); err != wanted {
+			t.Error(optional, err)
+		}
+	}
+}
+
 func TestAPeerGoesOnFromItsExport(t *testing.T) {
 	ends := func(own, other krbrelay.Address) (krbrelay.Session, krbrelay.Demand) {
 		return krbrelay.Session{Mode: krbrelay.Priv, Sender: own}, krbrelay.DemandOf(other)

@@ -136,8 +136,8 @@ func (s Session) raw() (raw C.struct_krbrelay_session) {
 type Expect struct {
 	Mode             Mode
 	Sender, Receiver Address
-	// A message may leave the receiver's address out unless RequireReceiver, its time unless RequireTime.
-	RequireReceiver, RequireTime bool
+	// A message may leave the receiver's address out unless RequireReceiver, and its time only under OptionalTime.
+	RequireReceiver, OptionalTime bool
 	// How many seconds a message's time may be off from the moment of opening.
 	Skew uint32
 }
@@ -145,12 +145,12 @@ type Expect struct {
 // NewExpect demands a time that is off by 300 seconds at most; a message may leave the receiver's address
 // out.
 func NewExpect(mode Mode, sender, receiver Address) Expect {
-	return Expect{Mode: mode, Sender: sender, Receiver: receiver, RequireTime: true, Skew: 300}
+	return Expect{Mode: mode, Sender: sender, Receiver: receiver, Skew: 300}
 }
 
 func (e Expect) raw() (raw C.struct_krbrelay_expect) {
 	raw.mode, raw.sender, raw.receiver = C.uint32_t(e.Mode), e.Sender.raw(), e.Receiver.raw()
-	raw.require_receiver, raw.require_time = flag(e.RequireReceiver), flag(e.RequireTime)
+	raw.require_receiver, raw.require_time = flag(e.RequireReceiver), flag(!e.OptionalTime)
 	raw.skew = C.uint32_t(e.Skew)
 	return raw
 }

@@ -422,11 +422,13 @@ def test_static_library(copy):
             and notes[0].startswith("build build --crate-name krb_c src/lib.rt ")
             and all(f" --extern {it}={building.library_of(it)} ".replace(building.TOP, copy.top)
                 in notes[0] for it in building.below()["krb_c"])), "krb_c is proved over the libraries of rt ci"
-    with open(copy.path("crates", "krb_c", "out", "libkrb_c.a"), encoding="utf-8") as file:
+    with open(copy.path("out", "static", "libkrb_c.a"), encoding="utf-8") as file:
         assert file.read() == "of the prover\n", "its library is the prover's"
-    with open(copy.path("crates", "krb_c", "out", "kept", "module"), encoding="utf-8") as file:
+    with open(copy.path("out", "kept", "krb_c", "module"), encoding="utf-8") as file:
         assert file.read() == "a module\n", "what its compiler was given is kept"
     assert run()[2] == [], "it is proved once then"
+    shutil.rmtree(copy.path("crates", "krb_c", "out"))
+    assert run()[2] == [], "`rt ci` makes the crate's folder anew, and what was built stays"
     see_lines_of_crates(copy, run)
     copy.append("// new\n", "crates", "krb_base", "src", "lib.rt")
     assert sorted(run()[3]) == sorted([*LIBRARIES, "krb_c"]), "a changed source below"

@@ -5,7 +5,7 @@ import os
 
 from lib import scripts
 from lib.build import building
-from lib.reference import pages, pages_html, pages_markdown, promises, sources
+from lib.reference import claims, pages, pages_html, pages_markdown, promises, sources
 from lib.reference.sources import Ref
 
 RUST = '''//! What the crate is for.
@@ -383,6 +383,30 @@ def test_promised():
            for entry in block.entries if entry[0].text == "frames_laws"]
     assert (len(law) == 1 and law[0][0].target.anchor == "frames_laws" and "The headline" in law[0][2].text
             and law[0][-2].text == "headline"), "a promise in a line"
+
+
+def test_claims():
+    """Each clause has a line; a changed text and a changed definition below it are told, each by the claim's name."""
+    project = sources.read_project()
+    every = promises.all_pages(project)[3:]
+    found = claims.rows(project, every)
+    clauses = [block for page in every for block in page.blocks if isinstance(block, pages.ClauseBlock)]
+    of_clauses = [it for row, it in found.items() if row[0] == "claim" and row[3] != "signature"]
+    assert sum(len(it) // 2 for it in of_clauses) == len(clauses) > 1000
+    assert claims.read(claims.written(found)) == found
+    headline = ("claim", "krb_peers", "frames_laws", "ensures", "headline")
+    module = project.crates["krb_seal"].modules["Opens"]
+    changed = next(it for it in module.definitions if it.ref.word == "Opens")
+    changed.text += " × ⊤"
+    told = list(claims.changes(found, claims.rows(project, every)))
+    assert "definition krb_seal Opens.Opens: its text is another one" in told
+    assert f"{' '.join(headline)}: a definition that it reaches is another one" in told
+    assert not any(it.startswith("claim krb_der ") or "its text" in it and it.startswith("claim") for it in told)
+    less = {row: it for row, it in found.items() if row != headline}
+    assert list(claims.changes(found, less)) == [f"{' '.join(headline)} is gone"]
+    assert list(claims.changes(less, less | {headline: ("0", "1")})) == [f"{' '.join(headline)} is new"]
+    other = found | {headline: ("0", found[headline][1])}
+    assert list(claims.changes(found, other)) == [f"{' '.join(headline)}: its text is another one"]
 
 
 def test_checks():

@@ -12,8 +12,9 @@ import zipfile
 
 import pytest
 
-from lib import scripts
+from lib import bindings, pages_inside, scripts
 from lib.build import building, ci, over_gate
+from lib.reference import claims
 from lib.release import attested, places, statement, verifying
 
 dist = scripts.load("c/dist")
@@ -29,7 +30,7 @@ WHEELS = [f"python/{NAME}-py3-none-manylinux_2_25_{machine}.whl" for machine in 
 WHEEL, ORIG = WHEELS[0], f"debian/krbrelay_{VERSION}.orig.tar.gz"
 DEBS = [f"debian/{name}_{VERSION}-1_{machine}.deb" for name, machine in (
     ("krbrelay", "amd64"), ("krbrelay-carrier", "amd64"), ("libkrbrelay1", "amd64"), ("libkrbrelay-dev", "amd64"),
-    ("python3-krbrelay", "all"))]
+    ("krbrelay-preload", "amd64"), ("python3-krbrelay", "all"))]
 PLAIN = ("README.md", f"{NAME}-vectors.json.gz", f"{NAME}-vectors.schema.json", f"{NAME}-vectors.README.md",
          *(f"debian/krbrelay_{VERSION}-1{end}" for end in (".dsc", ".debian.tar.xz", "_amd64.buildinfo")))
 OTHERS = (f"python/{NAME}.tar.gz", f"{NAME}-reference.tar.gz")
@@ -80,6 +81,7 @@ def put(folder, path, data):
         file.write(data)
 
 
+CLAIM = f"{0x2b:032x} {0x2c:032x}"
 CLAUSES = {"krb_peers": ["frames_laws.headline"], CRATE: ["lane.none", "lane.all"]}
 VERDICTS = {crate: ci.Verdict(7, 1) for crate in building.table()}
 HEAD = subprocess.run(["git", "-C", building.TOP, "rev-parse", "HEAD"], check=True, stdout=subprocess.PIPE,
@@ -126,7 +128,7 @@ def of_this_machine(patch):
     patch.setattr(statement, "kit", lambda: "kit-of-the-test")
     patch.setattr(statement, "kit_files", lambda: {"rattle": "ab" * 32})
     patch.setattr(statement, "commit", lambda: HEAD)
-    patch.setattr(statement, "clauses", lambda: {crate: {it: statement.sha256(it.encode()) for it in words}
+    patch.setattr(statement, "clauses", lambda: {crate: {it: CLAIM for it in words}
                                                  for crate, words in CLAUSES.items()})
 
 
@@ -345,7 +347,7 @@ def no_crates(told):
 def more_functions(told):
     for it in told["crates"].values():
         it["functions"] *= 10
-        it["clauses"]["made_up.is_constant_time"] = "0" * 64
+        it["clauses"]["made_up.is_constant_time"] = CLAIM
 
 
 X86 = "krbrelay-x86_64.s"
@@ -438,10 +440,23 @@ def test_what_is_stated(made):
     assert spdx["spdxVersion"] == "SPDX-2.3" and {it["name"] for it in spdx["packages"]} > {"sha1", "std", *told["artefacts"]}
 
 
+def test_the_tarball_has_the_source_of_each_clause():
+    inside = {place: statement.bytes_of(building.TOP, path) for place, path in dist.sources().items()
+              if place.startswith("proved/")}
+    named, table = statement.clauses(), building.table()
+    told = {"version": VERSION, "proved_code": {},
+            "sources": {it.removeprefix("proved/"): statement.sha256(data) for it, data in inside.items()},
+            "crates": {it: {"stands_on": deps, "clauses": named.get(it, {})} for it, (_, deps) in table.items()}}
+    assert len(named) > 25 and list(verifying.inside_tarball(inside, told)) == []
+
+
 def test_clauses_have_the_digest_of_their_text():
     named = statement.clauses()
     assert len(named["krb_peers"]) > 50
-    assert all(len(it) == 64 for crate in named.values() for it in crate.values())
+    assert all(verifying.CLAIM(it) for crate in named.values() for it in crate.values())
+    listed = claims.read(building.text_of("docs/reference/claims.txt"))
+    headline = listed["claim", "krb_peers", "frames_laws", "ensures", "headline"]
+    assert named["krb_peers"]["frames_laws.headline"] == " ".join(headline)
 
 
 def test_the_checkout_is_compared(made, monkeypatch):
@@ -483,8 +498,8 @@ STATEMENTS = {
     "functions of a crate are more": of_crate(functions=99),
     "a crate less": lambda told: told["crates"].pop(CRATE),
     "no crate at all": lambda told: told["crates"].clear(),
-    "clauses made up": lambda told: told["crates"][CRATE]["clauses"].update(none="0" * 64),
-    "another clause's text": lambda told: told["crates"][CRATE]["clauses"].update({"lane.none": "0" * 64}),
+    "clauses made up": lambda told: told["crates"][CRATE]["clauses"].update(none=CLAIM),
+    "another clause's text": lambda told: told["crates"][CRATE]["clauses"].update({"lane.none": CLAIM.replace("b", "f")}),
     "clauses taken away": lambda told: [it.update(clauses={}) for it in told["crates"].values()],
     "a crate stands on nothing": lambda told: told["crates"]["krb_peers"].update(stands_on=[]),
     "nothing is trusted": lambda told: told["trusted"].clear(),
@@ -543,11 +558,41 @@ def test_a_signature(folder, tmp_path):
     assert any("is of none of the signers" in it for it in verifying.by_hashes(folder, signers))
 
 
+def test_what_a_release_needs_is_looked_for_first(monkeypatch):
+    tool = scripts.load("release")
+    monkeypatch.setattr(tool, "NEEDED", ("sh", "no-such-compiler", "/no/such/header.h"))
+    monkeypatch.setenv("PATH", "/usr/bin:/bin")
+    with pytest.raises(SystemExit, match="not here: no-such-compiler, /no/such/header.h"):
+        tool.make("nowhere")
+
+
 def test_a_release_is_of_a_commit(monkeypatch):
     tool = scripts.load("release")
+    monkeypatch.setattr(tool, "lacking", list)
     monkeypatch.setattr(statement, "commit", lambda: HEAD + " and changes")
     with pytest.raises(SystemExit, match="a release is of a commit"):
         tool.make("nowhere")
+
+
+# ---- pages
+
+def test_links_lead_to_what_is_inside():
+    """Of the tarball, and of what the Rust crate takes of it."""
+    files = {place: statement.bytes_of(building.TOP, path) for place, path in dist.sources().items()}
+    assert len(list(pages_inside.dead(files))) > 50
+    files = dist.of_repository()
+    assert b"\n## Unreleased\n" not in files["CHANGELOG.md"] and f"\n## {VERSION}\n".encode() in files["CHANGELOG.md"]
+    assert list(pages_inside.dead(files)) == [] and b"](../README.md#build-and-link)" in files["kerberos/KERBEROS.md"]
+    assert not any(b"c/library --install" in it for place, it in files.items() if place.endswith(".md"))
+    taken = {it: it for it in files if it in bindings.TAKEN}
+    inside = pages_inside.pages(taken, lambda it: files[it].decode())
+    assert len(inside) > 2 and list(pages_inside.dead({it: files[it] for it in taken} | inside)) == []
+
+
+def test_what_only_the_repository_has_is_left_out():
+    text = "a [b](../c.md#d) [e](f.md) [g](https://h)\n\n## In the repository\n\ni\n\n## After\n"
+    assert pages_inside.page(text, "k/l.md", {"k/l.md": "l.md", "k/f.md": "m/f.md"}) == (
+        "a b [e](m/f.md) [g](https://h)\n\n## After\n")
 
 
 # ---- what the prover says

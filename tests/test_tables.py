@@ -265,9 +265,9 @@ def version():
 def places():
     """Each place that says the version, of which the pages of the manual are one a page."""
     yield from PLACES
-    for path in sorted(it for place in (PAGES, "carrier/man") for it in glob.glob(os.path.join(building.TOP, place, "*.[1378]"))):
+    for path in sorted(it for place in (PAGES, "carrier/man") for it in glob.glob(os.path.join(building.TOP, place, "*.[13578]"))):
         page = os.path.relpath(path, building.TOP)
-        yield page, r'^\.TH \S+ [1378] \S+ "krbrelay (.*?)"', "whole"
+        yield page, r'^\.TH \S+ [13578] \S+ "krbrelay (.*?)"', "whole"
 
 
 def written():
@@ -567,7 +567,8 @@ def of_tarball():
     wanted += ["program/host.c", "program/check/stdout", "program/completions/krbrelay.bash", "man/krbrelay.1"]
     wanted += [f"carrier/{it}" for it in carrier_files()]
     for name in ("krbrelay.examples", "krbrelay-carrier.docs", "krbrelay-carrier.examples",
-                 "libkrbrelay-dev.docs", "libkrbrelay-dev.examples", "python3-krbrelay.examples"):
+                 "libkrbrelay-dev.docs", "libkrbrelay-dev.examples", "python3-krbrelay.examples", "python3-krbrelay.docs",
+                 "krbrelay-preload.docs"):
         wanted += building.text_of(f"packaging/debian/{name}").split()
     for page, _ in map(str.split, building.text_of("c/man/links").splitlines()):
         wanted.append(f"man/{page}.3")
@@ -578,7 +579,7 @@ def of_tarball():
 def carrier_files():
     """What the carrier's Makefile compiles and installs."""
     text = building.text_of("carrier/Makefile")
-    installed = re.findall(r"systemd/\w+\.conf|systemd/\*\.service|man/\*\.8", text)
+    installed = re.findall(r"systemd/\w+\.conf|systemd/\*\.service|man/\*\.[58]|completions/\w+(?:\.\w+)?", text)
     names = [*re.findall(r"\b\w+\.c\b", text), "carrier.h"]
     return [*(os.path.relpath(sources.place_of(it), sources.CARRIER) for it in names), *installed, "status"]
 

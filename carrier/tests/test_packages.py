@@ -3,6 +3,7 @@ the rules and the dashboard of Prometheus their metrics, and the units how littl
 import json
 import os
 import re
+import shutil
 import subprocess
 import sys
 
@@ -83,6 +84,24 @@ def test_the_manual_has_each_event():
     assert set().union(*by_folder.values()) == set().union(*said.values())
     reasons = set(re.findall(r"^    X\((\w+)\) /\*", text_of("opening.h"), re.M))
     assert set(re.findall(r"^\.B OPENING_(\w+)$", text_of("man/krbrelay-receiver.8"), re.M)) == reasons and len(reasons) > 10
+
+
+ASK_BASH = """. "$0"; COMP_WORDS=(krbrelay-status -); COMP_CWORD=1
+_krbrelay_carrier krbrelay-status; echo "${COMPREPLY[@]}"
+"""
+
+
+@pytest.mark.parametrize("words", [
+    ["bash", "-c", ASK_BASH, "carrier.bash"],
+    ["fish", "--no-config", "-c", 'source $argv[1]; complete -C "krbrelay-status -"', "carrier.fish"]])
+def test_completions_have_each_option(words, tmp_path):
+    if shutil.which(words[0]) is None:
+        pytest.skip(f"{words[0]} isn't installed")
+    os.symlink(os.path.join(SOURCES, "status"), tmp_path / "krbrelay-status")
+    given = {"PATH": f"{tmp_path}:{os.environ['PATH']}", "HOME": str(tmp_path)}
+    words = [*words[:-1], os.path.join(SOURCES, "completions", words[-1])]
+    said = subprocess.run(words, check=True, stdout=subprocess.PIPE, text=True, env=given, cwd=tmp_path).stdout
+    assert set(said.split()) == page_options("krbrelay-status")
 
 
 def metrics():

@@ -7,7 +7,7 @@ import subprocess
 import sys
 import tarfile
 
-from lib import scripts
+from lib import pages_inside, scripts
 from lib.build import building
 
 MINUTES = 20
@@ -35,22 +35,27 @@ def take(sources, folder):
     lacking = [it for it in TAKEN if not os.path.exists(os.path.join(sources, it))]
     if lacking:
         sys.exit(f"the tarball has no {', '.join(lacking)}")
-    for at, _, names in os.walk(sources):
-        for name in names:
-            place = os.path.relpath(os.path.join(at, name), sources)
-            if any(place == it or it.endswith("/") and place.startswith(it) for it in TAKEN):
-                os.makedirs(os.path.dirname(os.path.join(folder, place)), exist_ok=True)
-                shutil.copyfile(os.path.join(sources, place), os.path.join(folder, place))
+    there = (os.path.relpath(os.path.join(at, name), sources) for at, _, names in os.walk(sources) for name in names)
+    copy({it: it for it in there if any(it == taken or taken[-1] == "/" and it.startswith(taken) for taken in TAKEN)},
+         sources, folder)
+
+
+def copy(moved, top, folder):
+    """Copies files from below a folder to their places below another, pages as they are inside of an artefact."""
+    for path, place in moved.items():
+        to = os.path.join(folder, place)
+        os.makedirs(os.path.dirname(to), exist_ok=True)
+        shutil.copy(os.path.join(top, path), to)
+    for place, data in pages_inside.pages(moved, lambda it: building.text_of(os.path.join(top, it))).items():
+        with open(os.path.join(folder, place), "wb") as file:
+            file.write(data)
 
 
 def copy_committed(room, folder):
     """Copies a room's files that are committed or new, and not those that git ignores."""
     listed = subprocess.run(["git", "-C", building.TOP, "ls-files", "-z", "--cached", "--others", "--exclude-standard", "--",
                              room], check=True, stdout=subprocess.PIPE, text=True).stdout
-    for path in listed.split("\0")[:-1]:
-        to = os.path.join(folder, os.path.relpath(path, room))
-        os.makedirs(os.path.dirname(to), exist_ok=True)
-        shutil.copy(os.path.join(building.TOP, path), to)
+    copy({path: os.path.relpath(path, room) for path in listed.split("\0")[:-1]}, building.TOP, folder)
 
 
 def pack(place, path):

@@ -93,7 +93,7 @@ func (a asked) taker() (func(message []byte) ([]byte, error), error) {
 	}
 	if a[13] == "1" {
 		expect := krbrelay.Expect{Mode: a.mode(), Sender: *demand.Sender, Receiver: *demand.Receiver, RequireReceiver: a[6] == "1",
-			RequireTime: a[7] == "2", Skew: uint32(a.number(10))}
+			OptionalTime: a[7] != "2", Skew: uint32(a.number(10))}
 		receiver, err := krbrelay.NewReceiver(etype, key, expect, krbrelay.State{Expected: *demand.Number})
 		return func(message []byte) ([]byte, error) { return record(receiver.Take(message, a.at())) }, err
 	}

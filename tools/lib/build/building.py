@@ -48,10 +48,8 @@ def has_program(crate):
 
 def top_of(crate):
     """What is built of a crate that no other stands on: its program or, where it has none, its
-    static library."""
-    if has_program(crate):
-        return program_of(crate)
-    return os.path.join(folder_of(crate), "out", f"lib{crate}.a")
+    static library, which lies where `rt ci` removes nothing: it makes the folder `out` of each crate anew."""
+    return program_of(crate) if has_program(crate) else os.path.join(TOP, "out", "static", f"lib{crate}.a")
 
 
 def library_of(crate):

@@ -49,8 +49,9 @@ def keeping(folder):
 # ---- what was kept of a crate
 
 def place_of(crate, other=""):
-    """Where it is kept, of the kit's own processor or of another one."""
-    return os.path.join(building.folder_of(crate), "out", "kept", other)
+    """Where it is kept, of the kit's own processor or of another one: not below the crate, whose folder `out`
+    `rt ci` makes anew."""
+    return os.path.join(building.TOP, "out", "kept", crate, other)
 
 
 def stamp_of(crate, other=""):

@@ -283,6 +283,9 @@ def prove(top):
     say(f"{top} is being proved, on {schedule.cores} cores: {len(crates)} crates,"
         f" the prover's output is in {os.path.relpath(LOGS)}")
     Run(schedule, start(top), harvest, say).all()
+    if not building.has_program(top):
+        os.makedirs(os.path.dirname(building.top_of(top)), exist_ok=True)
+        shutil.copy(os.path.join(building.folder_of(top), "out", f"lib{top}.a"), building.top_of(top))
     building.note(building.top_of(top), built_from)
 
 

@@ -88,6 +88,8 @@ class ClauseBlock:
     anchor: str
     source: Source
     comment: List[Inline]
+    owner: str = ""                 # the item whose clause it is
+    cites: Tuple[Ref, ...] = ()     # what its words stand for
 
 
 @dataclasses.dataclass
@@ -126,6 +128,7 @@ class Graph:
 
     def __init__(self, project: Project):
         self.project = project
+        self.kept: Dict[Ref, List[Ref]] = {}    # what each definition cites
 
     def of_clause(self, crate: str, scope: Scope, clause: Clause) -> Dict[str, Ref]:
         """What the words of a clause stand for: what its file imports, or a type of Rust."""
@@ -200,7 +203,9 @@ class Graph:
                 if ref not in seen:
                     seen.add(ref)
                     found.append(ref)
-                    far += self.cited(ref)
+                    if ref not in self.kept:
+                        self.kept[ref] = self.cited(ref)
+                    far += self.kept[ref]
             near = far
         return found
 
@@ -350,12 +355,12 @@ class Writer:
     # ---- items
 
     def clause(self, crate: str, owner: str, scope: Scope, clause: Clause) -> ClauseBlock:
-        links = self.links(self.graph.of_clause(crate, scope, clause))
+        cited = self.graph.of_clause(crate, scope, clause)
         anchor = f"{owner}.{clause.name}" if clause.name else ""
         if clause.kind == "requires" and anchor:
             anchor = f"{owner}.requires.{clause.name}"
-        return ClauseBlock(clause.kind, clause.name, anchor, Source(clause.text, "", links),
-                           self.inlines(crate, clause.comment))
+        return ClauseBlock(clause.kind, clause.name, anchor, Source(clause.text, "", self.links(cited)),
+                           self.inlines(crate, clause.comment), owner, tuple(cited.values()))
 
     def function(self, crate: str, made: Function, owner: str, level: int) -> Iterator[Block]:
         name = f"{owner}.{made.name}" if owner else made.name

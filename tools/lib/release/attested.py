@@ -8,7 +8,7 @@ import subprocess
 from lib.release import places
 
 NAMESPACE = "krbrelay-release"      # of signatures (ssh-keygen -Y)
-PREDICATE = "urn:krbrelay:proof:2"  # the project has no address yet
+PREDICATE = "urn:krbrelay:proof:3"  # the project has no address yet
 OURS = "Apache-2.0 OR MIT"
 INSIDE = {"sha1": OURS, "rand_chacha": OURS, "rand_core": OURS, "jiff": "MIT", "std": "NOASSERTION"}     # LICENSE
 

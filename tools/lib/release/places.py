@@ -35,8 +35,8 @@ def patterns(version):
     top = [r"README\.md", SUMS, *(base + it for it in (
         r"\.tar\.gz", r"\.proof\.json", r"\.intoto\.json", r"\.spdx\.json", r"-reference\.tar\.gz", r"-vectors\.json\.gz",
         r"-vectors\.schema\.json", r"-vectors\.README\.md"))]
-    debian = [rf"krbrelay_{deb}_amd64\.deb", rf"krbrelay-carrier_{deb}_amd64\.deb", rf"libkrbrelay1_{deb}_amd64\.deb",
-              rf"libkrbrelay-dev_{deb}_amd64\.deb", rf"python3-krbrelay_{deb}_all\.deb", rf"krbrelay_{deb}\.dsc",
+    names = "krbrelay", "krbrelay-carrier", "krbrelay-preload", "libkrbrelay1", "libkrbrelay-dev"
+    debian = [*(rf"{it}_{deb}_amd64\.deb" for it in names), rf"python3-krbrelay_{deb}_all\.deb", rf"krbrelay_{deb}\.dsc",
               rf"krbrelay_{deb}\.debian\.tar\.xz", rf"krbrelay_{v}\.orig\.tar\.gz", rf"krbrelay_{deb}_amd64\.buildinfo"]
     wheels = [rf"{base}-py3-none-manylinux_\d+_\d+_{machine}\.whl" for machine in MACHINES]
     return [*top, *(f"debian/{it}" for it in debian), *(f"python/{it}" for it in (rf"{base}\.tar\.gz", *wheels)),

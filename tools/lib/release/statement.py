@@ -2,7 +2,7 @@
 
 It names the commit, the kit and the compilers, each artefact by its hash and each file inside of one, each file
 that the proofs are of, each crate with what the prover said of it, and each clause of its public items by the hash
-of its text.
+of its text and that of the definitions which it reaches.
 """
 import hashlib
 import os
@@ -12,11 +12,11 @@ import subprocess
 
 from lib import scripts
 from lib.build import building, ci, kit_compiler
-from lib.reference import pages, promises, sources
+from lib.reference import claims, pages, sources
 from lib.release import attested, places
 from lib.release.places import SUMS, files_of, name_of
 
-FORM = 2
+FORM = 3
 LISTS = {"assumed": ("docs/PROVED.md", "## What is assumed\n"),     # the premises of the headline
          "only_tested": ("docs/PROVED.md", "## What is only tested\n"),
          "trusted": ("docs/PROVED.md", "## What is trusted\n")}
@@ -75,13 +75,12 @@ def of_tarball(path):
 
 
 def clauses():
-    """The named clauses of each crate's public items, with the digest of the text of each."""
-    project = sources.read_project()
-    found = {}
-    for page in pages.pages_of(project)[2:]:
-        for heading, blocks in promises.parts_of(page):
-            named = {it.anchor: sha256(it.source.text.encode()) for it in promises.stated(blocks) if it.anchor}
-            found.setdefault(page.name, {}).update(named)
+    """The clauses and signatures of each crate's public items, with the digest of the text of each and that of all
+    definitions which it reaches, as docs/reference/claims.txt has them."""
+    project, found = sources.read_project(), {}
+    for row, digests in claims.rows(project, pages.pages_of(project)[2:]).items():
+        if row[0] == "claim":
+            found.setdefault(row[1], {})[claims.key_of(row)] = " ".join(digests)
     return found
 
 

@@ -1,6 +1,6 @@
 """Tries a release's folder in a new Debian that has no kit: each artefact is installed by the command that the
-release's page has for it, runs its first example, and is removed. What a new system has besides is a compiler,
-make, pkg-config, Python, cargo, Go and systemd. It needs root and Debian's archive."""
+release's page has for it, as it is typed, runs its first example, and is removed. What a new system has besides is a
+compiler, make, pkg-config, Python, cargo, Go and systemd. It needs root and Debian's archive."""
 import contextlib
 import dataclasses
 import os
@@ -16,7 +16,10 @@ BESIDES = ("gcc", "libc6-dev", "make", "pkg-config", "python3", "python3-venv", 
            "systemd")
 HERE = "/srv"               # of a new system: nothing is there
 AT, WORK, HOME = f"{HERE}/release", f"{HERE}/work", f"{HERE}/home"     # the release's folder, one to work in, the user's
-ROW = re.compile(r"^\| (?P<what>[^|]+) \| (?P<how>[^|]+) \|", re.M)
+USER = f"{AT}/user"         # a user's crate or module, beside the folders of the release
+ROW = re.compile(r"^\| (?P<what>[^|]+) \| (?P<how>[^|]+) \| (?P<read>[^|]+) \|", re.M)
+# Here apt asks nothing, and installs no more than it has to.
+APT = 'APT::Get::Assume-Yes "true"; APT::Install-Recommends "false"; quiet "2";'
 # Where an install leaves what isn't its own: caches and notes of the package tools.
 NOT_KEPT = ("/proc", "/sys", "/dev", "/run", "/tmp", HERE, "/var/cache", "/var/log",
             "/var/lib/apt", "/var/lib/dpkg", "/var/lib/systemd", "/etc/ld.so.cache", "/etc/passwd",
@@ -24,25 +27,53 @@ NOT_KEPT = ("/proc", "/sys", "/dev", "/run", "/tmp", HERE, "/var/cache", "/var/l
 SEALS = """\
 import sqlite3, sys
 with sqlite3.connect("outbox.db") as file:
-    file.executemany("INSERT INTO text (session, body) VALUES (?, ?)", [("tom", it) for it in (b"one", b"two", None)])
+    file.executemany("INSERT INTO text (session, body) VALUES (?, ?)",
+                     [("tom-7", it) for it in (b"one", b"two", None)] + [("ann-1", None)])
 """
 SHOWS = """\
 import sqlite3
 print(*(text.decode() for text, in sqlite3.connect("store.db").execute("SELECT text FROM effect ORDER BY id")))
 """
-CARRIES = f"""\
+CARRIES = """\
+install -m 600 %s/example.sessions sessions
 umask 077
-echo "tom 0 18 priv $(head -c 32 /dev/urandom | od -An -vtx1 | tr -d ' \\n') 1 10.0.0.2 10.0.0.255" > sessions
 sender="krbrelay-sender --sessions sessions --outbox outbox.db --carrier sqlite:carrier.db --drain"
 $sender 2> log
-python3 -c '{SEALS}'
+python3 -c '""" + SEALS + """'
 $sender 2>> log
 timeout 60 krbrelay-receiver --sessions sessions --store sqlite:store.db --carrier sqlite:carrier.db --shards 0 --until-closed 2>> log
 $sender 2>> log     # takes the receipt
-krbrelay-status --outbox outbox.db --store sqlite:store.db | sed -n 2p
-python3 -c '{SHOWS}'
+krbrelay-status --outbox outbox.db --store sqlite:store.db | grep ^tom
+python3 -c '""" + SHOWS + """'
 """
-CARRIED = [r"tom +0 +4 +4 +4 +0 +0 +4 +closed.*", "one two"]
+CARRIED = [r"tom-7 +0 +4 +4 +4 +0 +0 +4 +closed.*", "one two"]
+EXAMPLES = "/usr/share/doc/krbrelay-carrier/examples"
+DEMO = f"{EXAMPLES}/demo 2> /dev/null | tail -n 2"
+DELIVERED = [f"{name}: 20000 texts, closed, in order, each once" for name in ("ann", "tom")]
+COMPLETED = """. /usr/share/bash-completion/completions/krbrelay-sender
+COMP_WORDS=(krbrelay-sender --out); COMP_CWORD=1; _krbrelay_carrier krbrelay-sender; echo "${COMPREPLY[@]}"
+"""
+# What a program does that MIT's library signs a message for, by Python's ctypes.
+SIGNS = """\
+import ctypes
+from ctypes import byref, c_int, c_uint, c_void_p
+class Data(ctypes.Structure):
+    _fields_ = [("magic", c_int), ("length", c_uint), ("data", c_void_p)]
+class Typed(ctypes.Structure):
+    _fields_ = [("magic", c_int), ("kind", c_int), ("length", c_uint), ("contents", c_void_p)]
+def typed(kind, text):
+    return byref(Typed(0, kind, len(text), ctypes.cast(ctypes.create_string_buffer(text, len(text)), c_void_p)))
+mit, context, ends, message = ctypes.CDLL(None), c_void_p(), c_void_p(), Data()
+text = ctypes.create_string_buffer(b"hello", 5)
+calls = [lambda: mit.krb5_init_context(byref(context)), lambda: mit.krb5_auth_con_init(context, byref(ends)),
+         lambda: mit.krb5_auth_con_setflags(context, ends, 4),
+         lambda: mit.krb5_auth_con_setaddrs(context, ends, typed(2, bytes([127, 0, 0, 1])), None),
+         lambda: mit.krb5_auth_con_setuseruserkey(context, ends, typed(17, b"chicken teriyaki")),
+         lambda: mit.krb5_mk_safe(context, ends, byref(Data(0, 5, ctypes.cast(text, c_void_p))), byref(message), None)]
+print([it() for it in calls], message.length > 5)
+"""
+PRELOADED = "KRBRELAY_LOG=$PWD/calls LD_PRELOAD='/usr/$LIB/krbrelay/kerberos.so' python3 signs.py && cat calls"
+SIGNED = [r"\[0, 0, 0, 0, 0, 0\] True", r"python3\S* krb5_mk_safe made OK 5 \d+"]
 C_EXAMPLE = "cc {}/examples/two_ends.c $(pkg-config --cflags --libs krbrelay) -o two_ends && ./two_ends"
 OPENED = ["message 7: hello", "open: 42: the sequence number isn't the expected one"]
 OPENED_BY_NAME = ["message 7: hello", "open: 42 BADORDER"]
@@ -80,7 +111,7 @@ class Row:
 
 
 def purge(*names):
-    return f"apt-get -qq purge -y {' '.join(names)} && apt-get -qq autoremove --purge -y"
+    return f"apt-get purge {' '.join(names)} && apt-get autoremove --purge"
 
 
 def rows(version):
@@ -93,39 +124,39 @@ def rows(version):
         Row("the library, elsewhere", C_EXAMPLE.format(tree), OPENED, f"make -s -C {tree} uninstall PREFIX=/usr/local && rm -r {tree}"),
         Row("the program `krbrelay`", RELAYED.format("/usr/share/doc/krbrelay/examples/batches.toml"), CLOSED, purge("krbrelay")),
         Row("the program, elsewhere", RELAYED.format(f"{tree}/program/jobs/batches.toml"), CLOSED,
-            f"make -s -C {tree}/program uninstall PREFIX=/usr/local && rm -r {tree}", unpack),
+            f"make -s -C {tree}/program uninstall PREFIX=/usr/local && rm -r {tree}"),
         Row("Python, on Debian", "python3 /usr/share/doc/python3-krbrelay/examples/two_ends.py", OPENED_BY_NAME,
             purge("python3-krbrelay", "libkrbrelay1")),
         Row("Python, elsewhere", f"{unpack} && {AT}/env/bin/python3 {tree}/python/examples/two_ends.py", OPENED_BY_NAME,
             f"{AT}/env/bin/pip uninstall -qy krbrelay && rm -r {AT}/env {tree}"),
         Row("Rust", f"cp {AT}/rust/krbrelay-{version}/examples/two_ends.rs src/main.rs && cargo run -q --offline", OPENED,
-            f"rm -r {AT}/rust/krbrelay-{version}", f"cargo new -q --vcs none --name user {WORK}/user"),
-        Row("Go", f"cat > main.go <<'END'\n{GO_PROGRAM}END\ngo run .", ["hello <nil>"], f"rm -r {AT}/krbrelay-go-{version}",
-            f"mkdir {WORK}/user && cd {WORK}/user && go mod init user"),
-        Row("senders and receivers over a queue, on", CARRIES, CARRIED, purge("krbrelay-carrier", "libkrbrelay1")),
-        Row("the same, elsewhere", CARRIES, CARRIED,
+            f"rm -r {AT}/rust/krbrelay-{version} {USER}", f"cargo new -q --vcs none {USER}"),
+        Row("Go", f"cat > main.go <<'END'\n{GO_PROGRAM}END\ngo run .", ["hello <nil>"],
+            f"rm -r {AT}/krbrelay-go-{version} {USER}", f"mkdir {USER} && cd {USER} && go mod init user"),
+        Row("senders and receivers over a queue, on", CARRIES % EXAMPLES + f"bash -c '{COMPLETED}'\n{DEMO}\n",
+            [*CARRIED, "--outbox", *DELIVERED], purge("krbrelay-carrier", "libkrbrelay1")),
+        Row("programs over MIT's libkrb5", f"cat > signs.py <<'END'\n{SIGNS}END\n{PRELOADED}", SIGNED,
+            purge("krbrelay-preload", "libkrbrelay1")),
+        Row("the same, elsewhere", CARRIES % f"{tree}/carrier/systemd", CARRIED,
             f"make -s -C {tree}/carrier uninstall PREFIX=/usr/local && make -s -C {tree} uninstall PREFIX=/usr/local && rm -r {tree}"
-            f" && {purge('libsqlite3-dev')}", f"apt-get -qq install -y --no-install-recommends libsqlite3-dev && {library}"),
+            f" && {purge('libsqlite3-dev')}", f"apt-get install libsqlite3-dev && {library}"),
     ]
 
 
 # ---- the commands of the page
 
 def commands(folder, version):
-    """The commands of each row of the page: where it says `in your crate`, the second is run in a user's folder.
-    Other folders beside a user's are those of the release."""
+    """The commands of each row of the page as they are typed in the release's folder, or, where it says `in your
+    crate`, in a user's; and those of what it names to be read."""
     with open(os.path.join(folder, "README.md"), encoding="utf-8") as file:
         text = file.read()
     found = {}
     for row in ROW.finditer(text):
         first, *more = re.findall(r"`([^`]+)`", row["how"]) or [""]
-        found[row["what"].strip()] = [f"cd {AT} && {typed(first)}"] + [f"cd {WORK}/user && {it}" for it in more]
-    return {what: [it.replace("../", f"{AT}/") for it in words] for what, words in found.items()}
-
-
-def typed(command):
-    """The command as it is run here: without questions."""
-    return command.replace("apt-get install", "apt-get -qq install -y --no-install-recommends")
+        pages = [f"man -w {section} {name}" for name, section in re.findall(r"([\w-]+)\((\d)\)", row["read"])]
+        found[row["what"].strip()] = [(AT, first), *((USER, it) for it in more),
+                                      *((AT, it) for it in re.findall(r"`([^`]+)`", row["read"]) + pages)]
+    return found
 
 
 # ---- the system
@@ -160,8 +191,8 @@ def new_system(count):
         subprocess.run(["mount", "-t", "proc", "proc", os.path.join(root, "proc")], check=True)
         try:
             system = System(root)
-            system.run("rm -f /etc/dpkg/dpkg.cfg.d/* && apt-get -qq update", "/tmp")
-            good, said = system.run(f"apt-get -qq install -y --no-install-recommends {' '.join(BESIDES)}", "/tmp")
+            system.run(f"rm -f /etc/dpkg/dpkg.cfg.d/*; echo '{APT}' > /etc/apt/apt.conf.d/90trial; apt-get update", "/tmp")
+            good, said = system.run(f"apt-get install {' '.join(BESIDES)}", "/tmp")
             count.told(good, f"what a user has besides: {' '.join(BESIDES)}", said[-5:])
             yield system
         finally:
@@ -173,11 +204,10 @@ def try_row(count, system, row, words):
     system.run(f"rm -rf {WORK}", "/tmp")
     before = system.files()
     good, said = system.run(row.before) if row.before else (True, [])
-    for command in words if good else ():
-        good, said = system.run(command)
+    for place, command in words if good else ():
+        good, said = system.run(command, place)
         count.told(good, f"{row.what}: {command}", said[-12:])
-    place = f"{WORK}/user" if row.what in ("Rust", "Go") else WORK
-    good, said = system.run(row.example, place)
+    good, said = system.run(row.example, USER if row.what in ("Rust", "Go") else WORK)
     last = sorted(said[-len(row.prints):])      # what goes to standard output may come after what goes to the other
     right = len(last) == len(row.prints) and all(re.fullmatch(wanted, line) for wanted, line in zip(sorted(row.prints), last))
     count.told(right, f"{row.what}: its first example prints {last}", said[-12:])

@@ -44,13 +44,13 @@ def is_count(it):
     return type(it) is int and it >= 0
 
 
-DIGEST = is_text(r"[0-9a-f]{64}")
+DIGEST, CLAIM = is_text(r"[0-9a-f]{64}"), is_text(r"[0-9a-f]{32}( [0-9a-f]{32})+")
 SHAPE = {
     "form": lambda it: it == statement.FORM, "version": is_text(places.VERSION.pattern), "commit": is_text(r"[0-9a-f]{40}"),
     "committed_at": is_count, "kit": is_text(), "kit_files": is_map(DIGEST), "made_by": is_map(is_text()),
     "artefacts": is_map(is_row(sha256=DIGEST, bytes=is_count)), "contents": is_map(is_map(DIGEST)),
     "proved_code": is_map(DIGEST), "sources": is_map(DIGEST),
-    "crates": is_map(is_row(functions=is_count, may_wait=is_count, stands_on=is_list(is_text()), clauses=is_map(DIGEST, 0))),
+    "crates": is_map(is_row(functions=is_count, may_wait=is_count, stands_on=is_list(is_text()), clauses=is_map(CLAIM, 0))),
     **{name: (lambda it: isinstance(it, list) and len(it) > 0 and all(map(is_text(), it))) for name in statement.LISTS}}
 
 
