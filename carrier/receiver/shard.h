@@ -213,7 +213,7 @@ uint32_t shard_judge(struct shard *shard, const struct receiving *of);
 
 /* All receipts that are due are sealed and published; none is owed. */
 void shard_pay(struct shard *shard);
-void shard_pay_rest(struct shard *shard); /* before it ends: however short the time is */
+void shard_pay_rest(struct shard *shard); /* before it ends: however short the time since the last ones is */
 void shard_owe_nothing(struct shard *shard);
 
 #endif

@@ -6,7 +6,8 @@
 
 #include <string.h>
 
-enum { TOGETHER = 64, LATER = 1000 }; /* receipts that are published at once; milliseconds */
+enum { TOGETHER = 64 };                         /* receipts that are published at once */
+enum { LATER = 1000, REST = 3000, AGAIN = 20 }; /* milliseconds */
 
 /* Seals a receipt: 1, or 0 after a fault, which is reported. */
 static int seal(const struct receiving *it, const struct krbrelay_receipt *due, struct carried *to,
@@ -83,10 +84,13 @@ void shard_pay(struct shard *s)
         continue;
 }
 
+/* A carrier may need a moment before it keeps receipts. */
 void shard_pay_rest(struct shard *s)
 {
-    while (s->is_loaded && s->owing.count > 0 && pay_some(s, milliseconds() + LATER))
-        continue;
+    uint64_t until = milliseconds() + REST;
+    while (s->is_loaded && s->owing.count > 0 && milliseconds() < until && !s->carrier->is_away(s->carrier))
+        if (!pay_some(s, milliseconds() + LATER) && s->owing.count > 0)
+            pause_milliseconds(AGAIN);
 }
 
 void shard_owe_nothing(struct shard *s)

@@ -12,6 +12,7 @@
 enum {
     RECONNECT = 200, /* milliseconds between tries */
     SILENT = 2000,   /* milliseconds after which a server that doesn't answer or read is left */
+    FLUSHED = 500,   /* milliseconds that what was published has to leave at the end */
     STEP = 500,      /* milliseconds by which the wall clock may be set back, and nothing is done */
     SERVERS = 16,    /* the most servers of a name */
     WHERE = 2048     /* the most bytes of their addresses */
@@ -71,11 +72,12 @@ static void destroy(natsSubscription **it)
     *it = NULL;
 }
 
-/* Ends the connection, and then, when its thread has ended, what heard over it. */
+/* Ends the connection once what was published has left, and then, when its thread has ended, what heard over it. */
 static void end_connection(struct nats_carrier *c)
 {
     int i;
     nats_stop_reading(c);
+    (void)natsConnection_FlushTimeout(c->connection, FLUSHED); /* a broker that is away loses it */
     natsConnection_Destroy(c->connection);
     c->connection = NULL;
     destroy(&c->replies);

@@ -228,6 +228,16 @@ def receipts_stream_deleted(place):
     await_no_frames(place, 20)
 
 
+def last_receipt(place):
+    """A receiver that ends once all is closed, within its first second: its last receipt leaves before."""
+    place.put(texts("ann", 0, 3) + repro.close("ann"))
+    place.start("sender")
+    place.require(place.wait(lambda: frames(place) == 4, 10), f"the outbox has {frames(place)} frames")
+    receiver = place.start("receiver", "--until-closed")
+    place.require(place.wait(lambda: receiver.poll() == 0, 15), "the receiver has ended")
+    await_no_frames(place)
+
+
 CASES = (
     Case(receipts_free_frames, "frames are kept until their receipt", {"ann": 50}, 10, (ANN,)),
     Case(receipts_tell_texts, "an application learns which of its texts took effect", {"ann": 20}, 10,
@@ -238,6 +248,7 @@ CASES = (
          {"ann": 300}, 10, (ANN,)),
     Case(receipts_frames_gone, "all frames are deleted below a sender, and its probe", {"ann": 100}, 40,
          (ANN,)),
+    Case(last_receipt, "a receiver ends once all is closed, over NATS", {"ann": 3}, 15, (ANN,), nats=""),
     Case(receipts_lost, "receipts are lost", {"ann": 100}, 20, (ANN,)),
     Case(receipts_forged, "receipts that aren't the session's", {"ann": 50, "tom": 50}, 20, (ANN, TOM)),
     Case(receipts_old_outbox, "an older outbox, of which a receipt is known", {"ann": 200}, 20, (ANN,)),
