@@ -188,6 +188,10 @@ int main(int argc, char **argv)
     struct sockaddr_in at = { .sin_family = AF_INET, .sin_addr.s_addr = htonl(INADDR_LOOPBACK) };
     socklen_t len = sizeof at;
     int fd = socket(AF_INET, SOCK_STREAM | SOCK_CLOEXEC, 0);
+    if (argc != 3 && argc != 5) {
+        fputs("usage: echo server COUNT, or echo client PORT NUMBER LINES\n", stderr);
+        return 2;
+    }
     at.sin_port = htons(argc == 5 ? (uint16_t)atoi(argv[2]) : 0);
     if (argc == 5 && connect(fd, (struct sockaddr *)&at, sizeof at) == 0)
         return client(fd, atoi(argv[3]), atoi(argv[4]));
