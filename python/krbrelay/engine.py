@@ -23,8 +23,8 @@ from typing import Any, Callable, NamedTuple, Optional, Tuple, Union
 from krbrelay.errors import check
 from krbrelay.library import (
     HISTORY_SIZE, CommandStruct, FlowStruct, HandleStruct, HeadStruct, OpeningStruct, PauseStruct,
-    ReadingStruct, ReceiptStruct, ReceivingStruct, RowStruct, SeenStruct, SendingStruct, ServedStruct,
-    StoredStruct, library)
+    ReadingStruct, ReceiptStruct, ReceivingStruct, RowStruct, SeenStruct, SendingStruct,
+    ServedStruct, StoredStruct, library)
 from krbrelay.turns import Turns, called, in_turn
 from krbrelay.values import Bytes, bytes_of, flag, number_or_0, ranged
 
@@ -315,8 +315,8 @@ class Sending(Turns):
         self._library, self._struct = library(), SendingStruct()
         self._at = byref(self._struct)
         of = _struct_of(stored)
-        check(called(self._library.krbrelay_sending_load, self._at, of.next, of.carried, of.at, of.done,
-                     of.list, _number("now", now)))
+        check(called(self._library.krbrelay_sending_load, self._at, of.next, of.carried, of.at,
+                     of.done, of.list, _number("now", now)))
 
     @in_turn
     def sealed(self, count: int) -> None:
@@ -443,8 +443,8 @@ class Lane(Turns):
         """One session more, of which the outbox has this. The first frame of one that opens is its
         opening, which leaves only after a release. ValueError, TypeError, MemoryError."""
         place = c_uint32()
-        check(called(self._library.krbrelay_lane_add, byref(self._struct), byref(_struct_of(stored)),
-                     flag("opens", opens), byref(place)))
+        check(called(self._library.krbrelay_lane_add, byref(self._struct),
+                     byref(_struct_of(stored)), flag("opens", opens), byref(place)))
         self._count += 1
         return place.value
 
@@ -464,8 +464,8 @@ class Lane(Turns):
     @in_turn
     def turn(self, now: int) -> Optional[Served]:
         """Which session is served next, if one is."""
-        told = ServedStruct()
-        if not self._library.krbrelay_lane_turn(byref(self._struct), _number("now", now), byref(told)):
+        told, at = ServedStruct(), _number("now", now)
+        if not self._library.krbrelay_lane_turn(byref(self._struct), at, byref(told)):
             return None
         command = Held() if told.command.kind == 4 else _command(told.command)
         return Served(told.place, command, bool(told.is_moved))
@@ -479,12 +479,14 @@ class Lane(Turns):
 
     @in_turn
     def sealed(self, place: int, count: int) -> None:
-        """So many frames more of the session are sealed and stored. ValueError if they have no numbers."""
+        """So many frames more of the session are sealed and stored. ValueError if they have no
+        numbers."""
         check(self._library.krbrelay_lane_sealed(*self._at(place), _number("the count", count)))
 
     @in_turn
     def confirmed(self, place: int, number: int, offset: int, now: int) -> bool:
-        """A copy of the frame of this number stands at this offset of the list: whether it counts."""
+        """A copy of the frame of this number stands at this offset of the list: whether it
+        counts."""
         counts = c_uint32()
         check(self._library.krbrelay_lane_confirmed(
             *self._at(place), _number("the number", number), _number("the offset", offset),
@@ -493,9 +495,9 @@ class Lane(Turns):
 
     @in_turn
     def receipt(self, place: int, receipt: Receipt, own: Optional[Bytes], now: int) -> Heard:
-        """A receiver says what took effect of the session, and what it asks for. `own` is the digest of
-        the own frames below the receipt's number, or None while it can't be read: then a receipt that
-        has to be compared is to be heard again."""
+        """A receiver says what took effect of the session, and what it asks for. `own` is the
+        digest of the own frames below the receipt's number, or None while it can't be read: then a
+        receipt that has to be compared is to be heard again."""
         struct = ReceiptStruct(_number("the number", receipt.number), _digest(receipt.history),
                                Asks(receipt.asks))
         heard = c_uint32()

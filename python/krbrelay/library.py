@@ -304,7 +304,8 @@ CALLS: Dict[str, Tuple[Any, List[Any]]] = {
     "krbrelay_lane_confirmed":
         (c_uint32, [_HANDLE, c_uint32, c_uint64, c_uint64, c_uint64, _FLAG]),
     "krbrelay_lane_receipt":
-        (c_uint32, [_HANDLE, c_uint32, POINTER(ReceiptStruct), _HISTORY, c_uint32, c_uint64, _FLAG]),
+        (c_uint32, [_HANDLE, c_uint32, POINTER(ReceiptStruct), _HISTORY, c_uint32, c_uint64,
+                    _FLAG]),
     "krbrelay_lane_stop": (c_uint32, [_HANDLE, c_uint32]),
     "krbrelay_lane_release": (c_uint32, [_HANDLE, c_uint32]),
     "krbrelay_lane_listed": (c_uint32, [_HANDLE, c_uint32, c_uint64]),
