@@ -390,7 +390,7 @@ static uint32_t queue_ready(void)
 /* Of lanes of their own, which ask for their blocks. */
 static uint32_t lane_add(void)
 {
-    static const struct krbrelay_stored row = { .next = 9, .carried = 7 };
+    static const struct krbrelay_stored row; /* with nothing to do: a queue without memory is made up for by a time */
     struct krbrelay_lane lane = KRBRELAY_INIT;
     uint32_t place, answer = krbrelay_lane_add(&lane, &row, 0, &place);
     krbrelay_lane_free(&lane);
