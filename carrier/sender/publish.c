@@ -73,7 +73,7 @@ void publish_stop(struct sender *s, struct sending *it)
     if (it->stopped_at != 1)
         s->untold.at[s->untold.count++] = it;
     it->stopped_at = 1;
-    (void)publish_has(it, krbrelay_lane_stop(&s->lanes[it->lane].ends, it->place));
+    (void)publish_has(it, krbrelay_lane_stop(&s->lanes[it->lane].ends, it->place)); /* else it is told */
     s->held -= it->is_held != 0;
     it->is_held = 0;
     count_anew(s, it); /* there is nothing to do any more */
@@ -187,7 +187,7 @@ static void release(struct sender *s, struct sending *it)
     s->held += (size_t)(is_held != 0) - (size_t)(it->is_held != 0);
     it->is_held = is_held;
     if (!is_held && it->is_stored)
-        (void)publish_has(it, krbrelay_lane_release(&s->lanes[it->lane].ends, it->place));
+        (void)publish_has(it, krbrelay_lane_release(&s->lanes[it->lane].ends, it->place)); /* else it is told */
     count_anew(s, it);
 }
 

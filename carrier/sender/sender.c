@@ -126,7 +126,7 @@ static void note_kept(struct sender *s)
     for (i = 0; i < s->touched.count; i++) {
         struct sending *it = s->touched.at[i];
         (void)publish_has(it, krbrelay_lane_sealed(&s->lanes[it->lane].ends, it->place,
-                                                   it->sealed - it->end.progress.next));
+                                                   it->sealed - it->end.progress.next)); /* else it is told */
         it->kept.next = it->sealed;
         it->is_touched = 0;
         it->is_stored = 1;

@@ -112,9 +112,9 @@ PLANTS = [
           "KRBRELAY_ASKS_REFUSED = 3 ", "KRBRELAY_ASKS_REFUSED = 4 ", "enum krbrelay_asks: "),
     Plant("two commands exchanged", HEADER, "",
           "KRBRELAY_COMMAND_PROBE = 2,         /* the frame of that number leaves again, alone */\n"
-          "    KRBRELAY_COMMAND_WAKE = 3 ",
+          "    KRBRELAY_COMMAND_WAKE = 3,",
           "KRBRELAY_COMMAND_WAKE = 2,         /* the frame of that number leaves again, alone */\n"
-          "    KRBRELAY_COMMAND_PROBE = 3 ", "enum krbrelay_command_kind: "),
+          "    KRBRELAY_COMMAND_PROBE = 3,", "enum krbrelay_command_kind: "),
     Plant("a pause that ends in 32 bits", HEADER, declares("krbrelay_pause_end"),
           "uint64_t krb", "uint32_t krb", "krbrelay_pause_end, in the module: "),
     Plant("a session's end with one field less", HEADER, r"^struct krbrelay_sending \{.*?\n\};",
