@@ -144,7 +144,10 @@ def test_status_in_json(ends):
         == (0, 2, 2, 0, 2, False, [])
     assert told["sessions"]["nobody"]["texts"] == 1 and told["sessions"]["nobody"]["waits"][0].startswith("stopped since")
     assert told["shards"]["0"]["end"] is None
-    with subprocess.Popen([*words, "--watch", "0.1"], stdout=subprocess.PIPE, text=True) as watching:
+    def heeds_interrupts():
+        signal.signal(signal.SIGINT, signal.SIG_DFL)    # which a job in the background ignores
+    with subprocess.Popen([*words, "--watch", "0.1"], stdout=subprocess.PIPE, text=True,
+                          preexec_fn=heeds_interrupts) as watching:
         assert [json.loads(watching.stdout.readline())["sessions"]["tom"] for _ in range(3)] == [tom] * 3
         watching.send_signal(signal.SIGINT)
         assert watching.wait(TO_WAIT) == 130
