@@ -50,6 +50,8 @@ static void count_anew(struct sender *s, struct sending *it)
     uint64_t stored, undone;
     if (publish_look(s, it) != 0)
         return; /* never: each session has its place */
+    s->held -= it->is_held && progress->sent > 0;
+    it->is_held = it->is_held && progress->sent == 0; /* a receipt says that its opening was taken before */
     stored = progress->next - progress->carried;
     undone = it->stopped_at != 1 ? progress->next - it->end.done : 0;
     it->room = it->stopped_at == 1 || it->is_deaf || stored > STORED ? 0 : STORED - stored;

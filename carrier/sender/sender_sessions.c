@@ -81,7 +81,7 @@ static enum krbrelay_answer load_end(struct sender *s, const struct sending *it)
     const struct outbox_progress *kept = &it->kept;
     int is_elsewhere = kept->shard >= 0 && kept->shard != (int32_t)it->of.shard;
     struct krbrelay_stored row = { .next = kept->next, .carried = kept->carried, .at = kept->at, .done = kept->done,
-                                       .list = is_elsewhere ? 0 : kept->incarnation };
+                                   .list = is_elsewhere ? 0 : kept->incarnation };
     enum krbrelay_answer answer;
     uint32_t place = 0;
     if (it->place < lane->members.count || lane->has_spare)
