@@ -2,6 +2,7 @@
 #include "clock.h"
 #include "ending.h"
 #include "log.h"
+#include "private.h"
 #include "text.h"
 
 #include <pthread.h>
@@ -81,6 +82,8 @@ sqlite3 *open_database(const char *path, const char *tables)
     sqlite3 *db = NULL;
     if (pthread_once(&configured, configure) != 0)
         end_at_once("pthread_once");
+    if (!private_is(path))
+        return NULL;
     if (sqlite3_open_v2(path, &db, flags, NULL) != SQLITE_OK) {
         log_fact(LEVEL_ERROR, "database_unopened", field_text("file", path),
                  field_text("fault", db != NULL ? sqlite3_errmsg(db) : "out of memory"),

@@ -13,7 +13,7 @@ static int is_private(const struct stat *is, const char *path)
     if ((is->st_mode & OTHERS) == 0)
         return 1;
     log_fact(LEVEL_ERROR, "file_not_private", field_text("file", path),
-             field_text("text", "it has secrets, and others may use it: chmod 600"));
+             field_text("text", "it has secrets or texts, and others may use it: chmod 600"));
     return 0;
 }
 
@@ -62,6 +62,12 @@ char *private_read(const char *path, size_t *size, struct stat *is)
     log_system("file_unread", path);
     private_forget(text, *size);
     return NULL;
+}
+
+int private_is(const char *path)
+{
+    struct stat is;
+    return stat(path, &is) != 0 || is_private(&is, path);
 }
 
 void private_forget(char *text, size_t size)

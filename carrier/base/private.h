@@ -1,4 +1,4 @@
-/* Files with keys or passwords, which only their owner may read. */
+/* Files with keys, passwords or texts, which only their owner may use. */
 #ifndef PRIVATE_H
 #define PRIVATE_H
 
@@ -9,6 +9,9 @@
  * file was. NULL, with a line of the log, if it can't be read, or may be used by others than its
  * owner. End it by private_forget. */
 char *private_read(const char *path, size_t *size, struct stat *is);
+
+/* Whether a file is its owner's alone, or isn't there: 1, or 0 with a line of the log. */
+int private_is(const char *path);
 
 /* Overwrites and frees it. */
 void private_forget(char *text, size_t size);

@@ -7,6 +7,7 @@ import collections
 import contextlib
 import dataclasses
 import glob
+import itertools
 import os
 import re
 import shutil
@@ -1008,6 +1009,7 @@ def old_files(place):
         file = sqlite3.connect(path)
         file.executescript(tables)
         file.close()
+        os.chmod(path, 0o600)
     place.put(texts("ann", 0, 5))
     send_and_receive(place)
 
@@ -1249,10 +1251,17 @@ def permissions(place):
     for path in glob.glob(f"{place.folder}/*.db*"):
         place.require(os.stat(path).st_mode & 0o777 == 0o600, f"{os.path.basename(path)} has mode"
                       f" {os.stat(path).st_mode & 0o777:o}")
-    for mode in (0o640, 0o604):
-        os.chmod(place.sessions, mode)
-        status, told = place.run("sender", "--drain", seconds=2)
-        place.require(status == 1 and loglines.has(told, "file_not_private"), f"mode {mode:o}: status {status}")
+    for process in place.running:
+        place.end(process)
+    uses = {place.sessions: "sender receiver", place.outbox: "sender",
+            place.store.removeprefix("sqlite:"): "receiver", place.carrier.removeprefix("sqlite:"): "sender receiver"}
+    for path, mode in itertools.product(uses, (0o640, 0o620, 0o604, 0o602)):
+        os.chmod(path, mode)
+        for program in uses[path].split():
+            status, told = place.run(program, seconds=2)
+            place.require(status == 1 and loglines.has(told, "file_not_private", file=path),
+                          f"{os.path.basename(path)} of mode {mode:o}, {program}: status {status}")
+        os.chmod(path, 0o600)
 
 
 # ---- what an operator sees

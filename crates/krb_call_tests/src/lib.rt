@@ -3,8 +3,8 @@
 //! one that C would write. What else the exports for C answer is tested in `krb_c` and by programs in C
 //! (`c/library`).
 //!
-//! The tests of [`krb_engine`], [`krb_sender`], [`krb_laws`] and [`krb_carry`]: each public function of the first two
-//! once, each function of krb_laws that gives and takes frames, with those of the independent sealer, and each function
+//! The tests of [`krb_engine`], [`krb_sender`], [`krb_receiver`], [`krb_laws`] and [`krb_carry`]: each public function of the
+//! first three once, each function of krb_laws that gives and takes frames, with those of the independent sealer, and each function
 //! whose contract is a law.
 #![tactic(auto)]
 
@@ -12,6 +12,8 @@
 mod engine;
 #[cfg(test)]
 mod laws;
+#[cfg(test)]
+mod receiver;
 #[cfg(test)]
 mod sender;
 #[cfg(test)]
