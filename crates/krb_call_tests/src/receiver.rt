@@ -5,7 +5,7 @@ ghost use Rattle.std.specs.Prelude.{◌≡◌};
 
 use krb_carry::Receipt;
 use krb_engine::{Asks, Outcome, Row, Seen, Spot};
-use krb_receiver::{Due, Effects, Failure, Shard, Then, Turn};
+use krb_receiver::{Due, Effects, Failure, Found, Shard, Then, Turn};
 use std::alloc::Global;
 use std::process::Abort;
 use std::test::Fail;
@@ -147,6 +147,15 @@ fn a_list_changes(rt: HostRuntime) -> Result<(), Fail> {
     take(&rt, &mut shard, 0, ACCEPTED, 1, Outcome::Accepted)?;
     shard.stored();
     assert_eq!(&rt; shard.reading().stored, spot(6, 1));
+    for (stored, found, turn) in [
+        (spot(6, 1), Found::Same, Turn::Read),
+        (spot(6, 2), Found::Ahead, Turn::Load),
+        (spot(6, 0), Found::Behind, Turn::Load),
+        (spot(5, 9), Found::Behind, Turn::Load),
+    ] {
+        assert_eq!(&rt; shard.found(stored), found);
+        assert_eq!(&rt; shard.turn(1_000), turn);
+    }
     Ok(())
 }
 

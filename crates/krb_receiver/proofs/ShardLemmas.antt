@@ -1,6 +1,6 @@
 -- What is kept of a shard's sessions.
-use Rattle.std.proofs.Common.{◌≡◌, ◌≢◌, ◌⊎◌, ℕ, zero, suc, ◌+◌, ◌-◌, ◌^◌, ◌<◌, ◌≤◌, ◌==◌, ◌||◌, not, if◌then◌else◌, Bool, true, false, List, [], ◌∷◌, ◌++◌, length, length-append, get_or, set, Option, Some, None, is_some, min, refl, sym, ap, subst, ◌∙◌, inl, inr, arith, get_or-set_other, get_or-set_same, length-set, eq-eqb}
-use Rattle.std.proofs.lemmas.Bool.{true≢false, false≢true, cases_eq, cases_lt}
+use Rattle.std.proofs.Common.{◌≡◌, ◌≢◌, ◌⊎◌, ℕ, zero, suc, ◌+◌, ◌-◌, ◌^◌, ◌<◌, ◌≤◌, ◌==◌, ◌||◌, if◌then◌else◌, Bool, true, false, List, [], ◌∷◌, ◌++◌, length, length-append, get_or, set, Option, Some, None, is_some, min, refl, sym, ap, subst, ◌∙◌, inl, inr, arith, get_or-set_other, get_or-set_same, length-set, eq-eqb}
+use Rattle.std.proofs.lemmas.Bool.{true≢false, false≢true, cases_eq, cases_lt, eqb-true, le-leb}
 use Rattle.std.proofs.Math.ListN.{get_or-append}
 use Rattle.std.proofs.lemmas.List.{get_or_push}
 use Rattle.std.proofs.lemmas.List.Folds.{list_any-append}
@@ -11,9 +11,10 @@ use Rattle.krb_engine.specs.declared.receiving.Seen.{Seen}
 use Rattle.krb_engine.specs.declared.sending.Asks.{Asks}
 use Rattle.krb_engine.specs.Queue.{has}
 use Rattle.krb_engine.specs.Receiving as engine
+use Rattle.krb_engine.specs.Sending.{is_over}
 use Rattle.krb_sender.specs.Times.{never, time_of}
 use Rattle.krb_receiver.specs.declared.shard.Attempt.{Attempt}
-use Rattle.krb_receiver.specs.Shard.{AllKept, IsKept, IsShard, owes_again, receipt_time, settled}
+use Rattle.krb_receiver.specs.Shard.{IsKept, IsShard, owes_again, receipt_time, settled, taken_with, with_last}
 
 -- ---- places that are listed
 
@@ -37,15 +38,15 @@ has_more taken place k is =
 
 pub has_less : (taken : List ℕ) (place k : ℕ) → k ≢ place → has (taken ++ place ∷ []) k ≡ true → has taken k ≡ true
 has_less taken place k apart is =
-    by_test (has taken k) (place == k) (λ same. apart (sym (eqb_eq place k same))) (sym (list_any-append (λ it. it == k) taken (place ∷ [])) ∙ is)
+    by_test (has taken k) (place == k) (λ same. apart (sym (eqb-true place k same))) (sym (list_any-append (λ it. it == k) taken (place ∷ [])) ∙ is)
   where
-    eqb_eq : (a b : ℕ) → (a == b) ≡ true → a ≡ b
-    eqb_eq a b same = omega (arith, same)
+    or_first : (c : Bool) → (false || (c || false)) ≡ true → c ≡ true
+    or_first true any = refl
+    or_first false any = absurd (false≢true any)
 
     by_test : (b c : Bool) → (c ≡ true → ⊥) → (b || (c || false)) ≡ true → b ≡ true
-    by_test true c no any = refl
-    by_test false true no any = absurd (no refl)
-    by_test false false no any = absurd (false≢true any)
+    by_test true c differs any = refl
+    by_test false c differs any = absurd (differs (or_first c any))
 
 -- ---- one session
 
@@ -366,3 +367,51 @@ owed_time it clock since short owed =
 
 pub owed_soon : (it : Receiving) (listed : Bool) (time clock : ℕ) → IsKept it listed time clock → it.is_open ≡ false → is_some it.owed ≡ true → time ≤ clock + 200
 owed_soon it listed time clock kept shut owed = omega (arith, kept.time shut, owed_time it clock kept.since kept.short owed)
+
+-- a session whose time has come has a receipt that is due
+pub not_due : (it : Receiving) (listed : Bool) (time clock : ℕ) → IsKept it listed time clock → it.is_open ≡ false → time ≤ clock → clock < never
+    → (it.is_open ≡ true) ⊎ (is_over it.paid clock ≡ false) ⊎ (it.owed ≡ None) → ⊥
+not_due it listed time clock kept shut come le none = elim none [
+  | inl busy ↦ true≢false (sym busy ∙ shut)
+  | inr rest ↦ elim (bool_cases (is_some it.owed)) [
+    | inl owed ↦ elim rest [
+      | inl early ↦
+          let is : receipt_time it ≡ min (it.paid.since + it.paid.length) never = ap (λ b. if b then min (it.paid.since + it.paid.length) never else never) owed in
+          let over : it.paid.since + it.paid.length ≤ clock = omega (arith, is, kept.time shut, come, le) in
+          true≢false (sym (le-leb (it.paid.since + it.paid.length) clock over) ∙ early)
+      | inr nothing ↦ true≢false (sym owed ∙ ap (λ o. is_some o) nothing)
+    ]
+    | inr owes_none ↦
+        let is : receipt_time it ≡ never = ap (λ b. if b then min (it.paid.since + it.paid.length) never else never) owes_none in
+        omega (arith, is, kept.time shut, come, le)
+  ]
+]
+
+-- ---- a frame is taken
+
+pub is_last : (taken : List ℕ) (place k : ℕ) → has (taken ++ place ∷ []) k ≡ true → (has taken k ≡ true) ⊎ (k ≡ place)
+is_last taken place k is = elim (cases_eq k place) [ inl same ↦ inr same | inr apart ↦ inl (has_less taken place k apart is) ]
+
+some_last : (attempt : Option Attempt) (offset : ℕ) → is_some attempt ≡ true → is_some (with_last attempt offset) ≡ true
+some_last None offset is = is
+some_last (Some attempt) offset is = refl
+
+pub take_shard : (sessions : List Receiving) (receipts taken : List ℕ) (attempt : Option Attempt) (wait : Option Pause) (clock place offset : ℕ) (old : Receiving) (frame : List ℕ) (seen : Seen)
+    → IsShard sessions receipts taken attempt wait clock → place < length sessions → old ≡ get_or sessions place old → is_some attempt ≡ true
+    → IsShard (set sessions place (engine.took old frame seen)) receipts (taken_with taken place old.is_open) (with_last attempt offset) wait clock
+take_shard sessions receipts taken attempt wait clock place offset old frame seen shard there is begun =
+    let was : IsKept old (has taken place) (time_of receipts place) clock =
+    subst (λ s. IsKept s (has taken place) (time_of receipts place) clock) (sym is) (shard.kept place old there) in
+    let none : (l : List ℕ) → is_some (with_last attempt offset) ≡ false → l ≡ [] = λ l ends. absurd (true≢false (sym (some_last attempt offset begun) ∙ ends)) in
+    elim (bool_cases old.is_open) [
+      | inl busy ↦
+          subst (λ (l : List ℕ). IsShard (set sessions place (engine.took old frame seen)) receipts l (with_last attempt offset) wait clock) (sym (ap (λ b. taken_with taken place b) busy))
+          (shard_with sessions receipts taken receipts taken attempt (with_last attempt offset) wait clock clock place (engine.took old frame seen)
+          shard (omega arith) there refl (λ k k_is. k_is) (λ k k_is. inl k_is) (none taken) (λ k apart. refl)
+          (took_kept old frame seen (has taken place) (has taken place) (time_of receipts place) (time_of receipts place) clock was (was.listed busy)))
+      | inr shut ↦
+          subst (λ (l : List ℕ). IsShard (set sessions place (engine.took old frame seen)) receipts l (with_last attempt offset) wait clock) (sym (ap (λ b. taken_with taken place b) shut))
+          (shard_with sessions receipts taken receipts (taken ++ place ∷ []) attempt (with_last attempt offset) wait clock clock place (engine.took old frame seen)
+          shard (omega arith) there refl (λ k k_is. has_more taken place k k_is) (λ k k_is. is_last taken place k k_is) (none (taken ++ place ∷ [])) (λ k apart. refl)
+          (took_kept old frame seen (has taken place) (has (taken ++ place ∷ []) place) (time_of receipts place) (time_of receipts place) clock was (has_last taken place)))
+    ]

@@ -1,6 +1,5 @@
 -- A shard of a receiver, with all its sessions.
-use Rattle.std.specs.Prelude.{◌≡◌, ◌⊎◌, ℕ, ◌+◌, ◌-◌, ◌*◌, ◌^◌, ◌<◌, ◌≤◌, ◌==◌, ◌&&◌, ◌||◌, nat_lt, nat_le, not, min, max, Bool, true, false, List, [], length, Option, Some, None, is_some, unwrap_or, if◌then◌else◌, slice_index_or, slice_set}
-use Rattle.krb_carry.specs.declared.receipt.Receipt.{Receipt}
+use Rattle.std.specs.Prelude.{◌≡◌, ◌⊎◌, ℕ, ◌+◌, ◌-◌, ◌^◌, ◌<◌, ◌≤◌, ◌==◌, ◌&&◌, ◌||◌, nat_lt, nat_le, not, min, max, Bool, true, false, List, [], ◌∷◌, ◌++◌, length, Option, Some, None, is_some, unwrap_or, if◌then◌else◌, slice_index_or, slice_set}
 use Rattle.krb_engine.specs.declared.pause.Pause.{Pause}
 use Rattle.krb_engine.specs.declared.receiving.Outcome.{Outcome}
 use Rattle.krb_engine.specs.declared.receiving.Receiving.{Receiving}
@@ -21,6 +20,8 @@ use Rattle.krb_receiver.specs.declared.shard.Due.{Due}
 use Rattle.krb_receiver.specs.declared.shard.Effects.{Effects}
 use Rattle.krb_receiver.specs.declared.shard.Failure.{Failure}
 use Rattle.krb_receiver.specs.declared.shard.Failure.TheVariants.{Refused, Later, Fenced, Fault}
+use Rattle.krb_receiver.specs.declared.shard.Found.{Found}
+use Rattle.krb_receiver.specs.declared.shard.Found.TheVariants.{Same, Ahead, Behind}
 use Rattle.krb_receiver.specs.declared.shard.Then.{Then}
 use Rattle.krb_receiver.specs.declared.shard.Then.TheVariants.{Store, Again, Wait}
 use Rattle.krb_receiver.specs.declared.shard.Turn.{Turn}
@@ -88,14 +89,14 @@ receipt_time it = if is_some it.owed then min (it.paid.since + it.paid.length) n
 abbrev pub settled : Bool → Receiving → Receiving
 settled is_stored it = if it.is_open then (if is_stored then engine.stored it else engine.dropped it) else it
 
-pub record IsKept (it : Receiving) (is_listed : Bool) (time clock : ℕ) : Type 0 where
+pub record IsKept (it : Receiving) (is_listed : Bool) (at clock : ℕ) : Type 0 where
   pub since : it.paid.since ≤ clock
   pub short : it.paid.length ≤ 200
   -- one of which frames are in the transaction under way is listed
   pub listed : it.is_open ≡ true → is_listed ≡ true
   -- of any other, what it demands is stored, and its receipt has its time
   pub demanded : it.is_open ≡ false → it.drafted ≡ it.stored
-  pub time : it.is_open ≡ false → time ≡ receipt_time it
+  pub time : it.is_open ≡ false → at ≡ receipt_time it
 
 abbrev pub AllKept : List Receiving → List ℕ → List ℕ → ℕ → Type 0
 AllKept sessions receipts taken clock =
@@ -163,6 +164,17 @@ abbrev pub read_of : Bool → Read
 read_of true = Elsewhere
 read_of false = Nothing
 
+-- what the store has beside what is known: a different list, or less of it, is behind
+abbrev pub found_of : Spot → Spot → Found
+found_of known found =
+    if not (found.list == known.list) || nat_lt found.offset known.offset then Behind
+    else (if nat_lt known.offset found.offset then Ahead else Same)
+
+abbrev pub is_same : Found → Bool
+is_same Same = true
+is_same Ahead = false
+is_same Behind = false
+
 -- ---- a turn
 
 -- its pause isn't over
@@ -213,11 +225,15 @@ abbrev pub last_of : Option Attempt → ℕ → ℕ
 last_of None none = none
 last_of (Some attempt) none = last_in attempt.last none
 
+-- the sessions of which it has frames, and the one of this place
+abbrev pub taken_with : List ℕ → ℕ → Bool → List ℕ
+taken_with taken place is_there = if is_there then taken else taken ++ place ∷ []
+
 -- a frame of a session is in it: what the session's end says of it; the others are as they were
-pub record Takes (old : ShardState) (place : ℕ) (frame : List ℕ) (seen : Seen) (offset : ℕ) (outcome : Outcome) (new : ShardState) : Type 0 where
+pub record Takes (old : ShardState) (place : ℕ) (frame : List ℕ) (seen : Seen) (offset : ℕ) (is : Outcome) (new : ShardState) : Type 0 where
   pub before : Receiving
   pub is_before : before ≡ slice_index_or old.sessions place before
-  pub outcome : outcome ≡ engine.outcome before.drafted seen
+  pub outcome : is ≡ engine.outcome before.drafted seen
   pub becomes : new.sessions ≡ slice_set old.sessions place (engine.took before frame seen)
   pub has_it : new.attempt ≡ with_last old.attempt offset
   pub reading : new.reading ≡ old.reading
@@ -320,13 +336,13 @@ stays_loaded Wait is_loaded failure = is_loaded && is_of_text failure
 
 -- What was stored before stays what is stored, and reading begins again after it; unless a text is the reason, what the
 -- store has is asked for again.
-pub record Fails (old : ShardState) (failure : Failure) (offset : ℕ) (then : Then) (new : ShardState) : Type 0 where
-  pub then : then ≡ then_of old.effects old.attempt old.refusals failure
-  pub sessions : KeepsOrDrops then old new
+pub record Fails (old : ShardState) (failure : Failure) (offset : ℕ) (is : Then) (new : ShardState) : Type 0 where
+  pub answer : is ≡ then_of old.effects old.attempt old.refusals failure
+  pub sessions : KeepsOrDrops is old new
   pub alone : new.alone ≡ marked old.alone old.reading failure offset
   pub refusals : new.refusals ≡ refused old.refusals failure
-  pub wait : new.wait ≡ waits_then then old.wait old.clock
-  pub is_loaded : new.is_loaded ≡ stays_loaded then old.is_loaded failure
+  pub wait : new.wait ≡ waits_then is old.wait old.clock
+  pub is_loaded : new.is_loaded ≡ stays_loaded is old.is_loaded failure
   pub reading : new.reading ≡ old.reading
   pub clock : new.clock ≡ old.clock
 
@@ -392,6 +408,14 @@ FaultsWait =
     × (effects.are_outside && has_frames attempt ≡ false → is_named attempt ≡ true → then_of effects attempt refusals Later ≡ Wait)
     × (effects.are_outside && has_frames attempt ≡ false → is_named attempt ≡ true → (effects.put_aside ≡ false) ⊎ (16 ≤ refusals)
     → then_of effects attempt refusals Refused ≡ Wait)
+
+-- where nothing went on from what is stored, and nothing was lost, it is known; and a receiver hears of each step back
+abbrev pub HearsOfStepsBack : Type 0
+HearsOfStepsBack =
+    (known found : Spot)
+    → (found_of known found ≡ Same → found ≡ known)
+    × (found.list ≡ known.list → found.offset < known.offset → found_of known found ≡ Behind)
+    × ((found.list ≡ known.list → ⊥) → found_of known found ≡ Behind)
 
 -- each pause is as long as the one before or longer, up to five seconds, and the first has a fifth of one
 abbrev pub PausesGrow : Type 0

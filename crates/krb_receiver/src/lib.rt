@@ -20,4 +20,4 @@
 
 mod shard;
 
-pub use shard::{Attempt, Due, Effects, Failure, Shard, Then, Turn, transaction_laws};
+pub use shard::{Attempt, Due, Effects, Failure, Found, Shard, Then, Turn, transaction_laws};

@@ -1,12 +1,12 @@
 //! A shard of a receiver.
 
-ghost use Rattle.std.specs.Prelude.{◌≡◌, ◌≢◌, ◌⊎◌, ◌+◌, ◌∷◌, ◌++◌, ◌<◌, ◌≤◌, ◌^◌, ℕ, [], true, false, IfNone, IfOk, IfSome, IsTrue, OnErr, OnOk, is_some, length, slice_index_or};
+ghost use Rattle.std.specs.Prelude.{◌≡◌, ◌≢◌, ◌⊎◌, ◌&&◌, ◌+◌, ◌-◌, ◌∷◌, ◌++◌, ◌<◌, ◌≤◌, ◌^◌, ℕ, [], true, false, IfNone, IfOk, IfSome, IsTrue, OnErr, OnOk, is_some, length, slice_index_or};
 ghost use Rattle.krb_engine.specs.Queue.{has};
 ghost use Rattle.krb_engine.specs.Receiving as engine;
 ghost use Rattle.krb_engine.specs.Shards.{ReadsOn};
 ghost use Rattle.krb_engine.specs.declared.receiving.Receiving.{Receiving};
-ghost use Rattle.krb_sender.specs.Times.{time_of};
-ghost use Rattle.krb_receiver.specs.Shard.{AllEnd, Begins, Fails, FaultsWait, HasNoReceipt, IsLoaded, IsNext, NoReceiptIsForgotten, OneByOne, OwesAgain, Passes, PausesGrow, Pays, RestIsSame, Stores, StoresWhatWasDone, Takes, Turns, WaitsAreShort, WhatIsDemandedIsStored, is_alone, is_full, has_frames, is_named, is_of_text, last_of, marked, no_sessions, read_of, receipt_time, refused, settled, then_of, wait_after, with_last};
+ghost use Rattle.krb_sender.specs.Times.{IsFirstTime, time_of};
+ghost use Rattle.krb_receiver.specs.Shard.{AllEnd, Begins, Fails, FaultsWait, HasNoReceipt, HearsOfStepsBack, IsLoaded, IsNext, NoReceiptIsForgotten, OneByOne, OwesAgain, Passes, PausesGrow, Pays, RestIsSame, Stores, StoresWhatWasDone, Takes, Turns, WaitsAreShort, WhatIsDemandedIsStored, found_of, is_alone, is_full, has_frames, is_named, is_of_text, is_same, last_of, marked, no_sessions, read_of, receipt_time, refused, settled, taken_with, then_of, wait_after, with_last};
 
 use krb_carry::Receipt;
 use krb_engine::{Asks, Outcome, Pause, Read, Reading, Receiving, Row, Seen, Spot};
@@ -82,6 +82,17 @@ pub enum Turn {
     },
     /// A transaction of the frames that follow.
     Read,
+}
+
+/// What the store has, beside what is known of it.
+#[derive(Clone, Copy, Debug, PartialEq, Eq)]
+pub enum Found {
+    /// It is this.
+    Same,
+    /// It is further: another receiver went on.
+    Ahead,
+    /// It has gone back, as to a copy of before, or to a standby that is behind: receipts may have left for what it lost.
+    Behind,
 }
 
 /// A receipt that leaves now.
@@ -166,6 +177,16 @@ impl Shard {
         self.reading.frames(list, last, 0) == Read::Elsewhere
     }
 
+    /// The store has this of the shard now. Unless it is what is known of it, what the store has is asked for.
+    pub fn found(&mut self, stored: Spot) -> Found
+        ensures found { result ≡ found_of self.old.reading.stored stored }
+        ensures state { self.new ≡ record self.old { is_loaded = self.old.is_loaded && is_same result } }
+    {
+        let found = compare(&self.reading.stored, &stored);
+        self.is_loaded = self.is_loaded && found == Found::Same;
+        found
+    }
+
     /// Up to where the list was taken, as stored and as read.
     pub fn reading(&self) -> &Reading
         ensures { result.now ≡ self.now.reading }
@@ -226,10 +247,7 @@ impl Shard {
     pub fn next_time(&self) -> u64
         ensures { IsNext self.now result }
     {
-        let receipt = match self.receipts.first() {
-            Some(place) => self.receipts.get(place),
-            None => u64::MAX,
-        };
+        let receipt = first_time(&self.receipts);
         match self.wait {
             Some(pause) => receipt.min(pause.end()),
             None => receipt,
@@ -275,9 +293,7 @@ impl Shard {
         ensures err { OnErr result (self.new ≡ self.old) }
     {
         let session = &mut self.sessions[place as usize];
-        if !session.is_open {
-            self.taken.push(place)?;
-        }
+        list(&mut self.taken, place, session.is_open)?;
         let outcome = session.take(frame, seen);
         self.attempt = with_last(self.attempt, offset);
         Ok(outcome)
@@ -368,7 +384,9 @@ impl Shard {
             return None;
         }
         let session = &mut self.sessions[place as usize];
-        let (receipt, asks) = session.receipt(self.clock)?;
+        let Some((receipt, asks)) = session.receipt(self.clock) else {
+            return None;
+        };
         self.receipts.set(place, receipt_time(session));
         Some(Due {
             place,
@@ -408,16 +426,28 @@ impl Shard {
 /// After a failure that is a text's, its frame and those before it are taken alone (`one_by_one`), so each text that fails is
 /// named and keeps no other from being stored. A transaction takes frames for a second at most (`ends`). What effects
 /// outside of the store did is stored where a later text fails, and nothing else is (`done`). What can't be had is tried again
-/// after a pause (`waits`), which grows up to five seconds (`grows`).
+/// after a pause (`waits`), which grows up to five seconds (`grows`). A store that has gone back is told from one that is as
+/// it was (`back`).
 pub fn transaction_laws()
     ensures one_by_one { OneByOne }
     ensures ends { AllEnd }
     ensures done { StoresWhatWasDone }
     ensures waits { FaultsWait }
     ensures grows { PausesGrow }
+    ensures back { HearsOfStepsBack }
 {}
 
 // ---- sessions
+
+/// The first of all times.
+fn first_time(times: &Times) -> u64
+    ensures { IsFirstTime times.now result }
+{
+    match times.first() {
+        Some(place) => times.get(place),
+        None => u64::MAX,
+    }
+}
 
 /// When the session's receipt leaves: never, if none is owed.
 fn receipt_time(session: &Receiving) -> u64
@@ -427,6 +457,17 @@ fn receipt_time(session: &Receiving) -> u64
         Some(_) => session.paid.end(),
         None => u64::MAX,
     }
+}
+
+/// The transaction has frames of the session of this place, which may be listed. If memory runs out, it isn't.
+fn list(taken: &mut Vec<u32>, place: u32, is_there: bool) -> Result<(), AllocError>
+    ensures ok { OnOk result (taken.new.items ≡ taken_with taken.old.items place is_there) }
+    ensures err { OnErr result (taken.new.items ≡ taken.old.items) }
+{
+    if !is_there {
+        taken.push(place)?;
+    }
+    Ok(())
 }
 
 /// The transaction that has frames of this session is stored, or isn't.
@@ -468,6 +509,19 @@ fn settle_all(
     while let Some(place) = taken.pop() {
         settle(sessions, receipts, place, is_stored);
     }
+}
+
+/// A place that is found, beside the one that is known.
+fn compare(known: &Spot, found: &Spot) -> Found
+    ensures { result ≡ found_of known.now found.now }
+{
+    if found.list != known.list || found.offset < known.offset {
+        return Found::Behind;
+    }
+    if found.offset > known.offset {
+        return Found::Ahead;
+    }
+    Found::Same
 }
 
 // ---- transactions
