@@ -1148,6 +1148,25 @@ def receiver_first(place):
     place.await_delivered()
 
 
+# What a stream that a program makes has to be: nothing is dropped by its age, number or size, and it is on disk. Of the
+# receipts the last one of each session stays.
+KEPT = {"retention": "limits", "storage": "file", "max_age": 0, "max_msgs": -1, "max_bytes": -1, "max_consumers": -1,
+        "discard": "old", "num_replicas": 1}
+
+
+def streams_made(place):
+    """Each stream that the programs make keeps what wasn't read."""
+    place.start("receiver")
+    place.put(texts("ann", 0, 10))
+    place.run("sender", "--drain")
+    place.await_delivered()
+    for name, subject, most in (("KRB_0", "krb.0.*", -1), ("KRB_RECEIPTS", "krbr.*.*", 1)):
+        config = jetstream.request(place.nats.ports[0], f"STREAM.INFO.{name}").get("config", {})
+        wanted = {**KEPT, "subjects": [subject], "max_msgs_per_subject": most}
+        found = {key: config.get(key) for key in wanted}
+        place.require(found == wanted, f"{name} is {found}")
+
+
 def forged_confirmation(place):
     """While nothing can be stored, somebody confirms what is under way at a great offset."""
     port = place.nats.ports[0]
@@ -1538,6 +1557,7 @@ CASES = (
          (ABE, ANN, TOM_1), "0,1", "max_payload: 65536"),
     Case(receiver_first, "a receiver is started first; a stream has fewer replicas than asked for",
          {"ann": 10}, 15, nats=""),
+    Case(streams_made, "what the streams that programs make keep", {"ann": 10}, 15, nats=""),
     Case(forged_confirmation, "somebody confirms frames at the offset 2^62", {"ann": 5}, 25,
          nats=""),
     Case(zombie_sender, "a sender is cut off while another one takes over", {"ann": 55}, 15,

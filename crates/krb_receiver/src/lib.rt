@@ -11,7 +11,7 @@
 //!     Turn::Load => ..,         // what the store has of the shard: `loaded`, and then `listed`
 //!     Turn::Wait { at } => ..,  // nothing is to be done before then, but receipts
 //!     Turn::Read => ..,         // a transaction of the frames that follow: `begin`; for each frame `take` or `pass`, until
-//!                               // `is_full`; then `stored`. Where something fails, `failed` says what becomes of it
+//!                               // `is_full`; then `stored`. Where something fails, `failed` says what happens to it
 //! }
 //! ```
 //!

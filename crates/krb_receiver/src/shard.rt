@@ -59,7 +59,7 @@ pub enum Failure {
     Fault,
 }
 
-/// What becomes of the transaction.
+/// What happens to the transaction.
 #[derive(Clone, Copy, Debug, PartialEq, Eq)]
 pub enum Then {
     /// What it has is stored.
@@ -343,7 +343,7 @@ impl Shard {
         self.refusals = 0;
     }
 
-    /// The frame of this offset isn't taken, or the transaction that ends with it isn't stored: what becomes of it.
+    /// The frame of this offset isn't taken, or the transaction that ends with it isn't stored: what happens to it.
     pub fn failed(&mut self, failure: Failure, offset: u64) -> Then
         requires { is_some self.old.attempt ≡ true }
         ensures { Fails self.old failure offset result self.new }
@@ -426,7 +426,7 @@ impl Shard {
 /// After a failure that is a text's, its frame and those before it are taken alone (`one_by_one`), so each text that fails is
 /// named and keeps no other from being stored. A transaction takes frames for a second at most (`ends`). What effects
 /// outside of the store did is stored where a later text fails, and nothing else is (`done`). What can't be had is tried again
-/// after a pause (`waits`), which grows up to five seconds (`grows`). A store that has gone back is told from one that is as
+/// after a pause (`waits`), which grows up to five seconds (`grows`). A store that has gone back isn't taken for one that is as
 /// it was (`back`).
 pub fn transaction_laws()
     ensures one_by_one { OneByOne }
@@ -607,7 +607,7 @@ fn is_named(attempt: Option<Attempt>) -> bool
     }
 }
 
-/// What becomes of a transaction.
+/// What happens to a transaction.
 fn then_of(effects: Effects, attempt: Option<Attempt>, refusals: u64, failure: Failure) -> Then
     ensures { result ≡ then_of effects attempt refusals failure }
 {
