@@ -6,14 +6,17 @@ import (
 	"bufio"
 	"bytes"
 	"encoding/binary"
+	"errors"
 	"fmt"
 	"io"
 	"net"
 	"os"
 	"os/exec"
 	"path/filepath"
+	"reflect"
 	"runtime"
 	"strings"
+	"sync"
 	"testing"
 	"time"
 
@@ -121,34 +124,88 @@ func TestTheClientIsInC(t *testing.T) {
 	endsWell(t, command, out, server)
 }
 
-// Goroutines share a peer: each text has a number of its own.
-func TestGoroutinesShareAPeer(t *testing.T) {
-	one, other := end(t, krbrelay.Client, krbrelay.Server), end(t, krbrelay.Server, krbrelay.Client)
-	sealed := make(chan []byte, 400)
-	done := make(chan bool)
-	for range [4]int{} {
-		go func() {
-			for count := 0; count < 100; count++ {
-				frame, err := one.Seal([]byte("text"))
-				if err != nil {
-					t.Error(err)
-				}
-				sealed <- frame
+// Goroutines share each handle, whichever of its calls they make: none finds it in the hands of another one. Each text
+// has a number of its own.
+func TestGoroutinesShareEachHandle(t *testing.T) {
+	text, key := []byte("text"), bytes.Repeat([]byte{number}, 32)
+	session := krbrelay.Session{Mode: krbrelay.Priv, Sender: krbrelay.Client}
+	expect := krbrelay.NewExpect(krbrelay.Priv, krbrelay.Client, krbrelay.Server)
+	sealer := must[*krbrelay.Sealer](t)(krbrelay.NewSealer(18, key, session))
+	opener := must[*krbrelay.Opener](t)(krbrelay.NewOpener(18, key, expect))
+	taker := must[*krbrelay.Receiver](t)(krbrelay.NewReceiver(18, key, expect, krbrelay.State{}))
+	peer := end(t, krbrelay.Client, krbrelay.Server)
+	frame := must[[]byte](t)(sealer.Seal(text))
+	message := krbrelay.Message{UserData: text, Time: time.Now()}
+	var sealed sync.Map
+	note := func(frame []byte, err error) error {
+		sealed.Store(string(frame), true)
+		return err
+	}
+	last := func(_ any, err error) error { return err }
+	handles := []struct {
+		handle any
+		calls  map[string]func() error
+	}{
+		{sealer, map[string]func() error{
+			"Seal":         func() error { return last(sealer.Seal(text)) },
+			"SealAt":       func() error { return last(sealer.SealAt(text, then, drawn[0])) },
+			"SealMany":     func() error { return last(sealer.SealMany([]krbrelay.Message{message})) },
+			"SealManyNow":  func() error { return last(sealer.SealManyNow([][]byte{text, text})) },
+			"SealRecord":   func() error { return last(sealer.SealRecord(krbrelay.Text(text))) },
+			"SealRecordAt": func() error { return last(sealer.SealRecordAt(krbrelay.Text(text), then, drawn[0])) },
+			"Next":         func() error { return last(sealer.Next()) },
+			"FrameSize":    func() error { return last(sealer.FrameSize(4, then)) },
+			"SetMode":      func() error { return sealer.SetMode(krbrelay.Priv) },
+		}},
+		{opener, map[string]func() error{
+			"Unseal": func() error { return last(opener.Unseal(frame, 0, time.Now())) },
+			"Open":   func() error { return last(opener.Open(frame, krbrelay.Demand{}, time.Now())) },
+		}},
+		{taker, map[string]func() error{
+			"Take":     func() error { return last(taker.Take(frame, time.Now())) },
+			"TakeMany": func() error { return last(taker.TakeMany([][]byte{frame}, time.Now())) },
+			"State":    func() error { return last(taker.State()) },
+		}},
+		{peer, map[string]func() error{
+			"Seal":        func() error { return note(peer.Seal(text)) },
+			"SealAt":      func() error { return last(peer.SealAt(text, then, drawn[0])) },
+			"SealMany":    func() error { return last(peer.SealMany([]krbrelay.Message{message})) },
+			"SealManyNow": func() error { return last(peer.SealManyNow([][]byte{text, text})) },
+			"Open":        func() error { return last(peer.Open(frame, time.Now())) },
+			"Numbers":     func() error { return last(peer.Numbers()) },
+			"Export":      func() error { return last(peer.Export()) },
+		}},
+	}
+	for _, it := range handles {
+		kind := reflect.TypeOf(it.handle)
+		var group sync.WaitGroup
+		for place := 0; place < kind.NumMethod(); place++ {
+			name := kind.Method(place).Name
+			call, isThere := it.calls[name]
+			if name == "Close" || name == "Wipe" {
+				continue
 			}
-			done <- true
-		}()
+			if !isThere {
+				t.Fatal("no goroutine makes the call ", kind, name)
+			}
+			for range [2]int{} {
+				group.Add(1)
+				go func() {
+					defer group.Done()
+					for count := 0; count < 100; count++ {
+						if err := call(); errors.Is(err, krbrelay.ErrEmpty) {
+							t.Error(kind, name, err)
+							return
+						}
+					}
+				}()
+			}
+		}
+		group.Wait()
 	}
-	for range [4]int{} {
-		<-done
+	count := 0
+	sealed.Range(func(any, any) bool { count++; return true })
+	if count != 200 {
+		t.Error(count, " different frames of 200")
 	}
-	waiting := map[uint32]bool{}
-	opener := must[*krbrelay.Opener](t)(krbrelay.NewOpener(18, bytes.Repeat([]byte{number}, 32), krbrelay.Expect{Mode: krbrelay.Priv}))
-	for len(sealed) > 0 {
-		body := must[*krbrelay.Body](t)(opener.Open(<-sealed, krbrelay.Demand{}, time.Now()))
-		waiting[*body.Number] = true
-	}
-	if numbers := must[krbrelay.Numbers](t)(one.Numbers()); numbers.Next != 400 || len(waiting) != 400 {
-		t.Error(numbers, len(waiting))
-	}
-	other.Close()
 }

@@ -7,7 +7,8 @@ from support import (
     ALL, KEYS, KINDS, MICROS, RECEIVER, SENDER, opener_of, outcome, peer_of, receiver_of, sealer_of)
 
 import krbrelay
-from krbrelay import Batch, Code, Demand, Mode, Text
+from krbrelay import Batch, Code, Demand, Mode, Text, engine
+from krbrelay.turns import Turns
 
 COUNT = 100_000 if ALL else 5_000
 MOST = 256 << 10    # bytes that may be grown by
@@ -17,6 +18,43 @@ def resident():
     """The bytes of this process in memory."""
     with open("/proc/self/statm", encoding="ascii") as file:
         return int(file.read().split()[1]) * os.sysconf("SC_PAGE_SIZE")
+
+
+def all_below(kind):
+    """A class's own classes, however far below, but those that stand for others."""
+    found = {it for below in kind.__subclasses__() for it in {below} | all_below(below)}
+    return {it for it in found if not it.__subclasses__()}
+
+
+def queue_of_many():
+    queue = engine.Queue()
+    queue.ready(500)
+
+
+def lane_of_many():
+    lane = engine.Lane()
+    for _ in range(8):
+        lane.add(STORED)
+
+
+STORED = engine.Stored(next=5, carried=0, at=0, done=0, list=1)
+# Of each class whose values have a struct of the library's, one that is made and let go of, with as much as it keeps on
+# the heap.
+LET_GO = {
+    engine.Pause: lambda: engine.Pause(5, 0),
+    engine.Queue: queue_of_many,
+    engine.Sending: lambda: engine.Sending(STORED, 0),
+    engine.Lane: lane_of_many,
+    engine.Flow: engine.Flow,
+    engine.Receiving: lambda: engine.Receiving(engine.Row(1), 0),
+    engine.Reading: lambda: engine.Reading(engine.Spot(1, 0)),
+    krbrelay.Window: krbrelay.Window,
+    krbrelay.History: krbrelay.History,
+    krbrelay.Sealer: lambda: sealer_of(KEYS[0], Mode.SAFE),
+    krbrelay.Opener: lambda: opener_of(KEYS[0], Mode.SAFE),
+    krbrelay.Receiver: lambda: receiver_of(KEYS[0], Mode.SAFE),
+    krbrelay.Peer: lambda: peer_of(KEYS[0], Mode.SAFE),
+}
 
 
 @unittest.skipUnless(os.path.exists("/proc/self/statm"), "the system doesn't say what is resident")
@@ -75,6 +113,16 @@ class Leaks(unittest.TestCase):
                     assert outcome(opener.unseal, frame, 8, MICROS) == Code.BADORDER
                     assert krbrelay.message_header(frame).etype == 18
             self.assert_still(work)
+
+    def test_what_is_let_go_of(self):
+        """No class is left out, and none keeps what its values had on the heap."""
+        self.assertEqual(set(LET_GO), all_below(Turns))
+        for kind, let_go in LET_GO.items():
+            def work(count):
+                for _ in range(count):
+                    let_go()
+            with self.subTest(kind.__name__):
+                self.assert_still(work)
 
     def test_handles(self):
         def work(count):
