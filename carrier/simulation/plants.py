@@ -78,7 +78,7 @@ SEAL_OK && outbox_insert(&s->outbox) == 0) {
     "what was told is forgotten where a key is tried again": [("sender_sessions.c", " && it->stopped_at == 0", "")],
     "a receiver idles for some minutes": [("shard.c", "look_at_store(s)", """\
 if (nanoseconds() > 30 * SECOND && nanoseconds() < 500 * SECOND) {
-        pause_milliseconds((unsigned)milliseconds);
+        s->rests = milliseconds() + WAIT;
         return 0;
     }
     look_at_store(s)""")],
