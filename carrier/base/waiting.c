@@ -12,7 +12,9 @@
 #include <sys/stat.h>
 #include <unistd.h>
 
-enum { SECOND = 1000, BLIND = 20 }; /* milliseconds */
+/* Milliseconds: files are looked at where a wait ends so long after the last time, and no wait is longer, so that whoever wakes
+ * each second by itself isn't woken once more; and between two looks where a file can't be watched. */
+enum { LOOK = 900, LONGEST = 1500, BLIND = 20 };
 
 /* ---- Files */
 
@@ -49,7 +51,7 @@ static int has_changed(struct watched *file)
     return answer;
 }
 
-/* Each second: whether one has changed, and nothing was told since they were looked at last. */
+/* Whether one has changed, and nothing was told since they were looked at last. */
 static int look_at_files(struct waiting *it)
 {
     int answer = 0, was_told = it->came >= it->looked;
@@ -102,32 +104,31 @@ void waiting_wake(struct waiting *it)
         log_system("unwoken", "eventfd"); /* never: and it wakes by itself */
 }
 
-/* So long it waits at most, in milliseconds, if nothing comes. */
+/* So long it waits at most, in milliseconds, if nothing comes: what was written is synced for longer where a disk is slow. */
 static uint64_t patience(const struct waiting *it, uint64_t now)
 {
-    uint64_t since = now - it->came;
     if (it->is_blind)
         return BLIND;
-    return it->passes_on || since >= SECOND ? UINT64_MAX : 1 + since / 2;
+    return it->passes_on ? UINT64_MAX : 1 + (now - it->came) / 2;
 }
 
 static uint64_t end_of(const struct waiting *it, uint64_t now, uint64_t moment)
 {
     uint64_t most = patience(it, now), end = moment;
-    if (most < UINT64_MAX && now + most < end)
+    if (moment - now > BRIEF && most < UINT64_MAX && now + most < end)
         end = now + most;
-    if (it->count > 0 && it->looked + SECOND < end)
-        end = it->looked + SECOND;
+    if (it->count > 0 && it->looked + LONGEST < end)
+        end = it->looked + LONGEST;
     return end;
 }
 
-/* Sleeps until one of the descriptors is ready: 1 if it was woken by another thread. */
-static int sleep_until(struct waiting *it, uint64_t now, uint64_t end)
+/* Sleeps, and unless that is brief no longer than until something comes: 1 if it was woken by another thread. */
+static int sleep_until(struct waiting *it, int is_brief, uint64_t now, uint64_t end)
 {
-    struct pollfd all[] = { { it->woken, POLLIN, 0 }, { it->changes, POLLIN, 0 },
+    struct pollfd all[] = { { is_brief ? -1 : it->woken, POLLIN, 0 }, { is_brief ? -1 : it->changes, POLLIN, 0 },
                             { it->is_told ? -1 : ending_descriptor(), POLLIN, 0 } };
     uint64_t time = end > now ? end - now : 0, count;
-    struct timespec wait = { (time_t)(time / SECOND), (long)(time % SECOND) * 1000000 };
+    struct timespec wait = { (time_t)(time / 1000), (long)(time % 1000) * 1000000 };
     (void)ppoll(all, sizeof all / sizeof *all, &wait, NULL); /* a signal may end it earlier: who waits looks again */
     it->is_told |= all[2].revents != 0;
     return read(it->woken, &count, sizeof count) > 0;
@@ -139,12 +140,12 @@ int waiting_until(struct waiting *it, uint64_t moment)
     int was_woken, has_come;
     if (moment <= now)
         return 0;
-    was_woken = sleep_until(it, now, end_of(it, now, moment));
+    was_woken = sleep_until(it, moment - now <= BRIEF, now, end_of(it, now, moment));
     has_come = take_changes(it);
     now = milliseconds();
     if (was_woken || has_come)
         it->came = now;
-    if (it->count > 0 && now - it->looked >= SECOND && look_at_files(it)) {
+    if (it->count > 0 && now - it->looked >= LOOK && look_at_files(it)) {
         it->came = now;
         has_come = 1;
     }

@@ -2,7 +2,7 @@
  *
  * What comes is told by files: inotify says that a database of SQLite was written to. It says so when the writing begins,
  * and what was written is seen only once it is synced. So whoever was woken looks again soon, and then ever more rarely.
- * Where a change isn't told, it is seen within a second: that is looked for then. Where a file can't be watched at all,
+ * Where a change isn't told, it is seen within 1.5 seconds: that is looked for then. Where a file can't be watched at all,
  * who waits is woken each 20 milliseconds. */
 #ifndef WAITING_H
 #define WAITING_H
@@ -30,8 +30,9 @@ void waiting_watch(struct waiting *it, const char *path);
 /* Wakes who waits here, or is about to. Any thread may call it. */
 void waiting_wake(struct waiting *it);
 
-/* Waits until this moment, in milliseconds of the clock that only rises, and no longer than until something comes: 1 if it
- * was written to a file. */
+/* Waits until this moment, in milliseconds of the clock that only rises, and no longer than until something comes, but for a
+ * wait of BRIEF milliseconds, in which more comes that is looked at together: 1 if it was written to a file. */
+enum { BRIEF = 3 };
 int waiting_until(struct waiting *it, uint64_t moment);
 
 void waiting_end(struct waiting *it);

@@ -12,7 +12,11 @@
 #define SECOND (1000 * MILLISECOND)
 #define QUIET (5 * SECOND)
 
-enum { FORGOTTEN = 1024, WAIT = 100, RETRY = 20 }; /* milliseconds: of a call that waits, and after a fault */
+enum {
+    FORGOTTEN = 1024,
+    WAIT = 100, RETRY = 20, /* milliseconds of a call that waits, after a fault, */
+    GATHERING = 3, FEW = 64 /* and after so few frames, so that more are taken together */
+};
 
 /* Nanoseconds since the last call. */
 static uint64_t lap(struct shard *s)
@@ -585,7 +589,10 @@ static uint64_t next_time(const struct shard *s)
 
 int shard_step(struct shard *s, uint64_t *until)
 {
-    int count = milliseconds() < s->rests ? 0 : step(s);
+    uint64_t began = milliseconds();
+    int count = began < s->rests ? 0 : step(s);
+    if (count > 0 && count < FEW && s->is_loaded && s->carrier->file != NULL && s->rests < began + GATHERING)
+        s->rests = began + GATHERING;
     if (milliseconds() < s->rests)
         *until = s->rests;
     else

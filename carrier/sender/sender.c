@@ -11,7 +11,8 @@
 enum {
     IDLE = 20,          /* milliseconds to wait for confirmations of a carrier that waits, or until what can't be waited for */
     PAUSE = 100,        /* milliseconds after a fault, */
-    KEPT = 20,          /* and between two transactions that store only how far sessions are */
+    KEPT = 20,          /* and between two transactions that store only how far sessions are; */
+    GATHERING = 2,      /* after a round in which not much was done, so that the next one has more to do */
     FORGOTTEN = 1024    /* sessions that have ended and stay in memory, where it has fewer others */
 };
 
@@ -463,6 +464,17 @@ static int keep(struct sender *s, int texts, enum outbox_answer *answer)
     return 1;
 }
 
+/* When the next round is due after one that has left nothing. With a carrier that tells what comes, that is waited for. */
+static uint64_t rest(struct sender *s, int has_done)
+{
+    uint64_t now = milliseconds(), next = next_time(s);
+    if (s->sealable.count > 0 || next <= now || (has_done && (s->carrier->file == NULL || texts_wait(s))))
+        return 0;
+    if (has_done)
+        s->rests = now + GATHERING;
+    return has_done ? s->rests : next;
+}
+
 /* Stores what waits, and publishes what is stored. 1 if all is done that can be. */
 static int relay(struct sender *s, enum outbox_answer *answer, uint64_t *until)
 {
@@ -481,7 +493,7 @@ static int relay(struct sender *s, enum outbox_answer *answer, uint64_t *until)
     rose = publish_count_carried(s, waits ? IDLE : 0);
     report_silence(s, rose);
     s->carrying += nanoseconds() - began;
-    *until = has_kept || has_more || waits || rose > 0 || s->sealable.count > 0 ? 0 : next_time(s);
+    *until = has_more || waits ? 0 : rest(s, has_kept || rose > 0);
     return 0;
 }
 
