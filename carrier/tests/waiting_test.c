@@ -71,7 +71,7 @@ static void test_wakes(void)
     waiting_end(&it);
 }
 
-/* One that passes on what comes is told of it once. */
+/* One that passes on what comes is woken once for it. */
 static void test_file(const char *path)
 {
     struct waiting it;
@@ -112,7 +112,7 @@ static void test_unwatched(void)
     waiting_end(&it);
 }
 
-/* The end is told once, so that what has to be done then can be waited for. */
+/* The end wakes once, so that what has to be done then can be waited for. */
 static void test_end(void)
 {
     struct waiting it;
