@@ -1,5 +1,5 @@
-"""Programs that have nothing to do wake rarely, with many sessions that each had a text, over SQLite; and a text is told
-to them when it is put in."""
+"""Programs that have nothing to do wake rarely, with many sessions that each had a text, over SQLite; and
+each text wakes them."""
 import contextlib
 import os
 import sqlite3
@@ -12,7 +12,10 @@ from test_effects import both_programs
 SESSIONS, SHARDS = 10_000, 2
 WINDOW, MOST_A_SECOND = 5, 2    # seconds in which wakes are counted, of all threads of a program
 PATIENCE = 120                  # seconds
-ONE_BY_ONE, TOLD = 50, 25       # texts, each put in after the one before took effect; seconds, if each is told
+# Texts, each put in after the one before took effect; seconds that they take at most if each wakes both ends.
+ONE_BY_ONE, AWAKE = 50, 25
+EFFECTS = "SELECT count(*) FROM effect"
+UNDONE = "SELECT (SELECT count(*) FROM text) + (SELECT count(*) FROM sealed)"
 SHARED = ("--sessions", "sessions", "--carrier", "sqlite:carrier.db")
 
 
@@ -22,9 +25,11 @@ def programs(shared, prefix):
 
 
 def write_sessions(folder):
-    lines = (f"s{i} {i % SHARDS} 18 priv {i:064x} 1 10.0.0.1 10.0.0.2\n" for i in range(SESSIONS))
-    with open(folder / "sessions", "w", encoding="ascii", opener=lambda path, how: os.open(path, how, 0o600)) as file:
-        file.writelines(lines)
+    def private(path, how):
+        return os.open(path, how, 0o600)
+    with open(folder / "sessions", "w", encoding="ascii", opener=private) as file:
+        file.writelines(f"s{i} {i % SHARDS} 18 priv {i:064x} 1 10.0.0.1 10.0.0.2\n"
+                        for i in range(SESSIONS))
 
 
 @pytest.fixture
@@ -34,14 +39,15 @@ def running(programs, tmp_path):
     with contextlib.ExitStack() as stack:
         def start(name, *words):
             log = stack.enter_context(open(tmp_path / f"{name}.log", "wb"))
-            process = subprocess.Popen([f"{programs}/{name}", *SHARED, *words], cwd=tmp_path, stderr=log)
+            process = subprocess.Popen([f"{programs}/{name}", *SHARED, *words], cwd=tmp_path,
+                                       stderr=log)
             stack.callback(process.wait)
             stack.callback(process.terminate)
             return process
         sender = start("sender", "--outbox", "outbox.db")
         receiver = start("receiver", "--store", "sqlite:store.db", "--shards", f"0-{SHARDS - 1}")
-        await_so(lambda: ask(tmp_path / "store.db", "SELECT count(*) FROM effect") == 0
-                 and ask(tmp_path / "outbox.db", "SELECT count(*) FROM text") == 0)
+        await_so(lambda: ask(tmp_path / "store.db", EFFECTS) == 0
+                 and ask(tmp_path / "outbox.db", UNDONE) == 0)
         yield tmp_path, sender, receiver
 
 
@@ -63,7 +69,8 @@ def ask(path, query):
 
 def put(folder, names):
     with contextlib.closing(sqlite3.connect(folder / "outbox.db", timeout=30)) as file, file:
-        file.executemany("INSERT INTO text (session, body) VALUES (?, 'x')", ((name,) for name in names))
+        file.executemany("INSERT INTO text (session, body) VALUES (?, 'x')",
+                         ((name,) for name in names))
 
 
 def wakes(process):
@@ -71,7 +78,8 @@ def wakes(process):
     count = 0
     for thread in os.listdir(f"/proc/{process.pid}/task"):
         with open(f"/proc/{process.pid}/task/{thread}/status", encoding="ascii") as file:
-            count += sum(int(line.split()[1]) for line in file if line.startswith("voluntary_ctxt_switches"))
+            count += sum(int(line.split()[1]) for line in file
+                         if line.startswith("voluntary_ctxt_switches"))
     return count
 
 
@@ -84,15 +92,15 @@ def wakes_of_a_window(processes):
 def test_idle_programs_wake_rarely(running):
     folder, *processes = running
     put(folder, (f"s{i}" for i in range(SESSIONS)))
-    await_so(lambda: ask(folder / "outbox.db", "SELECT (SELECT count(*) FROM text) + (SELECT count(*) FROM sealed)") == 0)
-    assert ask(folder / "store.db", "SELECT count(*) FROM effect") == SESSIONS
+    await_so(lambda: ask(folder / "outbox.db", UNDONE) == 0)
+    assert ask(folder / "store.db", EFFECTS) == SESSIONS
     await_so(lambda: max(wakes_of_a_window(processes)) <= MOST_A_SECOND * WINDOW)
 
 
-def test_each_text_is_told(running):
+def test_each_text_wakes_both_ends(running):
     folder, *_ = running
     began = time.monotonic()
     for count in range(ONE_BY_ONE):
         put(folder, [f"s{count}"])
-        await_so(lambda wanted=count + 1: ask(folder / "store.db", "SELECT count(*) FROM effect") == wanted)
-    assert time.monotonic() - began < TOLD
+        await_so(lambda wanted=count + 1: ask(folder / "store.db", EFFECTS) == wanted)
+    assert time.monotonic() - began < AWAKE

@@ -10,7 +10,8 @@
 #include <sys/stat.h>
 #include <unistd.h>
 
-enum { LONG = 60000, SHORT = 30, SECOND = 1000, LOOKS = 40 }; /* milliseconds; looks after something came, at most */
+enum { LONG = 60000, SHORT = 30, SECOND = 1000 }; /* milliseconds */
+enum { LOOKS = 40 };                              /* after something came, at most */
 
 static char database[4096], beside[4096], link_of_it[4096];
 
@@ -79,7 +80,7 @@ static void test_file(const char *path)
     waiting_watch(&it, path);
     lasts(&it, SHORT);
     write_to(beside);
-    check(is_cut_short(&it) == 1, "what is written beside the database ends the wait");
+    check(is_cut_short(&it) == 1, "a write beside the database ends the wait");
     lasts(&it, SHORT);
     write_to(database);
     lasts(&it, SHORT);
@@ -99,7 +100,8 @@ static void test_untold(void)
     waiting_begin(&it, 1);
     waiting_watch(&it, database);
     check(utimensat(AT_FDCWD, beside, times, 0) == 0, "its time is set");
-    check(waiting_until(&it, milliseconds() + LONG) == 1 && milliseconds() - it.looked < SECOND, "a change is found");
+    check(waiting_until(&it, milliseconds() + LONG) == 1 && milliseconds() - it.looked < SECOND,
+          "a change is found");
     waiting_end(&it);
 }
 
@@ -108,7 +110,8 @@ static void test_unwatched(void)
     struct waiting it;
     waiting_begin(&it, 0);
     waiting_watch(&it, "/nowhere/database");
-    check(is_cut_short(&it) == 1 && is_cut_short(&it) == 1, "what can't be watched is looked at all the time");
+    check(is_cut_short(&it) == 1 && is_cut_short(&it) == 1,
+          "what can't be watched is looked at all the time");
     waiting_end(&it);
 }
 
@@ -118,7 +121,8 @@ static void test_end(void)
     struct waiting it;
     waiting_begin(&it, 0);
     end_by_signals();
-    check(raise(SIGTERM) == 0 && is_cut_short(&it) == 0 && is_ending(), "the end cuts a wait short");
+    check(raise(SIGTERM) == 0 && is_cut_short(&it) == 0 && is_ending(),
+          "the end cuts a wait short");
     lasts(&it, SHORT);
     waiting_end(&it);
 }
