@@ -58,13 +58,13 @@ static int make_tables(sqlite3 *db, const char *tables)
     return -1;
 }
 
-/* Waits for other processes, unless this one is to end. */
+/* Waits for other processes, unless this one is to end: at first for a moment, as for what another one syncs. */
 static int wait_for_others(void *given, int tries)
 {
     (void)given;
-    if (is_ending() || tries >= PATIENCE / RETRY)
+    if (is_ending() || tries >= RETRY / 2 + PATIENCE / RETRY)
         return 0;
-    pause_milliseconds(RETRY);
+    pause_milliseconds(tries + 1 < RETRY ? (unsigned)tries + 1 : RETRY);
     return 1;
 }
 

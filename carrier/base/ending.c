@@ -1,19 +1,28 @@
 #include "ending.h"
 
+#include <errno.h>
 #include <signal.h>
 #include <stddef.h>
+#include <stdint.h>
 #include <stdio.h>
+#include <sys/eventfd.h>
 #include <unistd.h>
 
 enum { PATIENCE = 4 }; /* seconds for an end in order */
 
 /* Of handlers and of threads: all is read and written atomically. */
 static int ending, status, hung_up;
+static int descriptor = -1; /* made before there are threads */
 
 static void end_in_time(void)
 {
-    if (!__atomic_exchange_n(&ending, 1, __ATOMIC_SEQ_CST))
-        (void)alarm(PATIENCE); /* what was left of another: there is none */
+    const uint64_t one = 1;
+    int before = errno;
+    if (__atomic_exchange_n(&ending, 1, __ATOMIC_SEQ_CST))
+        return;
+    (void)alarm(PATIENCE); /* what was left of another: there is none */
+    if (write(descriptor, &one, sizeof one) < 0)
+        errno = before; /* who waits wakes within some seconds all the same */
 }
 
 static void note(int number)
@@ -33,6 +42,9 @@ void end_by_signals(void)
 {
     const int numbers[] = { SIGTERM, SIGINT, SIGALRM };
     size_t i;
+    descriptor = eventfd(0, EFD_CLOEXEC | EFD_NONBLOCK);
+    if (descriptor < 0)
+        end_at_once("there is no descriptor for the end");
     for (i = 0; i < sizeof numbers / sizeof *numbers; i++) {
         struct sigaction action = { .sa_handler = numbers[i] == SIGALRM ? leave : note };
         if (sigaction(numbers[i], &action, NULL) != 0)
@@ -61,6 +73,11 @@ int has_hung_up(void)
 int is_ending(void)
 {
     return __atomic_load_n(&ending, __ATOMIC_SEQ_CST);
+}
+
+int ending_descriptor(void)
+{
+    return descriptor;
 }
 
 void end_now(void)

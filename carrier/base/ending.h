@@ -10,6 +10,9 @@ void end_by_signals(void);
 
 int is_ending(void);
 
+/* A descriptor that is ready to be read, for good, once the program is to end. */
+int ending_descriptor(void);
+
 /* From now on SIGHUP is noted. Whether one came since the last call. */
 void note_hangups(void);
 int has_hung_up(void);

@@ -23,7 +23,7 @@
 #include <unistd.h>
 
 enum { ANSWER = 512, MOST_ANSWER = 1 << 16 };   /* bytes of an answer that are kept, and that it may have */
-enum { WAIT = 100, MOST_WAITS = 600 };          /* milliseconds, so often: a minute */
+enum { MOST_WAIT = 60000 };                     /* milliseconds for an answer */
 enum { END_WAIT = 10, END_WAITS = 200 };        /* milliseconds, so often: two seconds */
 
 struct child { pid_t pid; int socket; };
@@ -189,10 +189,10 @@ static char *line_of(const struct arrived *it, size_t *len)
 /* Waits until the socket is ready: 0, or -1 if it isn't within a minute, or the receiver is to end. */
 static int await(int socket, short what)
 {
-    struct pollfd it = { socket, what, 0 };
-    int waits;
-    for (waits = 0; waits < MOST_WAITS && !is_ending(); waits++)
-        if (poll(&it, 1, WAIT) > 0)
+    struct pollfd all[] = { { socket, what, 0 }, { ending_descriptor(), POLLIN, 0 } };
+    uint64_t end = milliseconds() + MOST_WAIT, now;
+    while (!is_ending() && (now = milliseconds()) < end)
+        if (poll(all, 2, (int)(end - now)) > 0 && all[0].revents != 0)
             return 0;
     return -1;
 }

@@ -20,7 +20,7 @@
 #include <string.h>
 #include <sys/stat.h>
 
-enum { WAIT = 50, SECOND_OF_WAITS = 20 };
+enum { SECOND = 1000 }; /* milliseconds */
 
 static const char usage[] =
     "receiver [--sessions FILE] --store WHERE --carrier WHERE --shards LIST|auto [OPTION..]\n"
@@ -55,6 +55,7 @@ struct options {
 
 static struct options options;
 static struct sessions *sessions; /* the file, as it was read last */
+static struct waiting waiting;    /* where this thread waits; what comes it passes on to those of shards */
 
 /* ---- Shards that are shared */
 
@@ -216,6 +217,7 @@ static void look_at_sessions(void)
     if (again == NULL)
         return;
     serving_use(again);
+    serving_wake();
     sessions_forget(sessions);
     sessions = again;
     memset(is_closed, 0, sizeof is_closed);
@@ -231,8 +233,21 @@ static int is_done(void)
     return options.shard.until_closed && count_wanted() == 0;
 }
 
+/* Once all shards that are served have the carrier open, its file is there. */
+static void watch_carrier(void)
+{
+    const char *file = carrier_file(&options.shard.carrier);
+    if (file == NULL || waiting.count > 0 || serving_count() == 0 || !serving_is_ready())
+        return;
+    waiting_watch(&waiting, file);
+    serving_wake();
+}
+
 static void do_each_second(void)
 {
+    if (sharing != NULL)
+        give_back_shards();
+    serving_look_at_stores();
     if (!is_ending())
         look_at_sessions();
     if (sharing != NULL && !is_ending())
@@ -244,13 +259,15 @@ static void do_each_second(void)
 static void watch(void)
 {
     int is_ready = 0, is_ended = 0;
-    unsigned rounds;
-    for (rounds = 0; !is_done(); rounds++) {
-        serving_join();
-        if (sharing != NULL)
+    uint64_t next = 0;
+    while (!is_done()) {
+        if (serving_join() > 0 && sharing != NULL)
             give_back_shards();
-        if (rounds % SECOND_OF_WAITS == 0)
+        watch_carrier();
+        if (milliseconds() >= next) {
             do_each_second();
+            next = milliseconds() + SECOND;
+        }
         if (!is_ready && serving_is_ready()) {
             service_tell_ready();
             is_ready = 1;
@@ -259,16 +276,19 @@ static void watch(void)
             service_tell_end();
             is_ended = 1;
         }
-        pause_milliseconds(WAIT);
+        if (waiting_until(&waiting, next))
+            serving_wake();
     }
 }
 
 /* 0, or 1 after a fault at the start. */
 static int work(void)
 {
-    int is_fine = effects_choose(options.effect, options.refusals) == 0
-                  && serving_begin(&options.shard, sessions, options.shard_count == 0) == 0
-                  && (options.metrics == NULL || service_listen(options.metrics) == 0);
+    int is_fine;
+    waiting_begin(&waiting, 1);
+    is_fine = effects_choose(options.effect, options.refusals) == 0
+              && serving_begin(&options.shard, sessions, options.shard_count == 0, &waiting) == 0
+              && (options.metrics == NULL || service_listen(options.metrics) == 0);
     if (is_fine && options.shard_count == 0)
         is_fine = (sharing = sharing_open(options.shard.store)) != NULL;
     if (is_fine && sharing != NULL)
@@ -283,6 +303,7 @@ static int work(void)
     if (look != NULL)
         look->close(look);
     serving_end();
+    waiting_end(&waiting);
     service_end();
     return !is_fine;
 }

@@ -8,16 +8,19 @@
 #include <pthread.h>
 #include <stdlib.h>
 
-enum { WAIT = 100, SHORTEST = 200, LONGEST = 5000 }; /* milliseconds */
+enum { SHORTEST = 200, LONGEST = 5000 }; /* milliseconds */
 
-#define SECOND UINT64_C(1000000000) /* nanoseconds */
+#define MILLISECOND UINT64_C(1000000) /* nanoseconds */
+#define SECOND (1000 * MILLISECOND)
 #define UNANSWERED (10 * SECOND)
 
 /* What the thread and its owner both use is read and written atomically. */
 struct thread {
     pthread_t thread;
     struct served served;
+    struct waiting waiting;
     enum shard_state state;  /* of the owner alone, as is: */
+    uint64_t store[2];       /* which file the store is, as it was looked last */
     int has_closed;
     int has_begun, has_ended, is_closed;
 };
@@ -25,7 +28,8 @@ struct thread {
 static struct {
     const struct shard_options *options;
     struct thread *threads;  /* one for each shard */
-    unsigned count;
+    unsigned count, shards[CARRIER_SHARDS]; /* so many of them run, of these shards */
+    struct waiting *owner;
     int come_and_go, failed;
     pthread_mutex_t lock;    /* of the sessions */
     struct sessions *sessions;
@@ -57,16 +61,14 @@ static int has_to_end(const struct served *it)
     return is_ending() || is_set(&it->is_left);
 }
 
-/* The store is away, or the effect of a text can't be had: waits for longer each time. */
-static void wait_longer(struct served *it, int why)
+/* The store is away, or the effect of a text can't be had: it rests for longer each time. */
+static void rest_longer(struct served *it, int why)
 {
-    unsigned waited;
     if (why == SHARD_AWAY)
         log_fact(LEVEL_WARNING, "store_away", field_number("shard", it->shard.number),
                  field_number("milliseconds", it->pause),
                  field_text("text", "it is opened again then, and the shard goes on where it was"));
-    for (waited = 0; waited < it->pause && !has_to_end(it); waited += WAIT)
-        pause_milliseconds(WAIT);
+    it->rests = milliseconds() + it->pause;
     it->pause = 2 * it->pause < LONGEST ? 2 * it->pause : LONGEST;
 }
 
@@ -90,6 +92,7 @@ static void report(struct served *it)
         it->before = shard->counts;
     }
     it->reported = nanoseconds();
+    it->is_unshown = 0;
 }
 
 /* Whether all sessions of the shard are closed, if that is the end. */
@@ -113,24 +116,39 @@ int serving_open(struct served *it)
     return 0;
 }
 
-/* What waits for the first frame isn't counted in the seconds. */
-int serving_turn(struct served *it)
+/* One step, of which what it did is noted. What waits for the first frame isn't counted in the seconds. */
+static void step(struct served *it, uint64_t *until)
 {
     struct shard *shard = &it->shard;
-    int count;
-    if (has_to_end(it) || is_closed(shard))
-        return 1;
-    use_sessions(shard);
-    count = shard_step(shard, WAIT);
+    unsigned long receipts = shard->counts.receipts;
+    int count = shard_step(shard, until);
     if (shard->answered != 0)
         __atomic_store_n(&it->answered, shard->answered, __ATOMIC_SEQ_CST);
     if (count < 0)
-        wait_longer(it, count);
+        rest_longer(it, count);
     else if (shard->is_loaded)
         it->pause = SHORTEST;
     if (shard->counts.accepted == 0 && count == 0)
         it->began = nanoseconds();
+    it->is_unshown |= count != 0 || !shard->is_loaded || shard->counts.receipts != receipts;
+}
+
+/* What has happened is shown within a second. */
+int serving_turn(struct served *it, uint64_t *until)
+{
+    uint64_t show;
+    if (has_to_end(it) || is_closed(&it->shard))
+        return 1;
+    *until = 0;
+    use_sessions(&it->shard);
+    if (milliseconds() >= it->rests)
+        step(it, until);
     report(it);
+    show = it->is_unshown ? (it->reported + SECOND) / MILLISECOND + 1 : UINT64_MAX;
+    if (milliseconds() < it->rests)
+        *until = it->rests;
+    if (show < *until)
+        *until = show;
     return 0;
 }
 
@@ -146,10 +164,12 @@ static void *work(void *given)
 {
     struct thread *it = given;
     struct served *served = &it->served;
+    uint64_t until = 0;
     if (serving_open(served) == 0) {
         set(&it->has_begun);
-        while (!serving_turn(served))
-            continue;
+        waiting_wake(serving.owner);
+        while (!serving_turn(served, &until))
+            (void)waiting_until(&it->waiting, until); /* whatever came, a turn looks for it */
         serving_finish(served);
         if (is_closed(&served->shard))
             set(&it->is_closed);
@@ -159,14 +179,17 @@ static void *work(void *given)
     shard_stop(&served->shard);
     service_leave(served->shard.number);
     set(&it->has_ended);
+    waiting_wake(serving.owner);
     return NULL;
 }
 
 /* ---- All of them */
 
-int serving_begin(const struct shard_options *options, struct sessions *sessions, int come_and_go)
+int serving_begin(const struct shard_options *options, struct sessions *sessions, int come_and_go,
+                  struct waiting *owner)
 {
     serving.options = options;
+    serving.owner = owner;
     serving.come_and_go = come_and_go;
     serving.sessions = sessions_share(sessions);
     serving.threads = calloc(CARRIER_SHARDS, sizeof *serving.threads);
@@ -185,18 +208,42 @@ void serving_use(struct sessions *sessions)
     give_lock(&serving.lock);
 }
 
+void serving_wake(void)
+{
+    unsigned i;
+    for (i = 0; i < serving.count; i++)
+        waiting_wake(&serving.threads[serving.shards[i]].waiting);
+}
+
+void serving_look_at_stores(void)
+{
+    unsigned i;
+    for (i = 0; i < serving.count; i++) {
+        struct thread *it = &serving.threads[serving.shards[i]];
+        uint64_t device = 0, inode = 0;
+        if (store_file(serving.options->store, serving.shards[i], &device, &inode) != 0
+            || (it->store[0] == device && it->store[1] == inode))
+            continue;
+        it->store[0] = device;
+        it->store[1] = inode;
+        waiting_wake(&it->waiting);
+    }
+}
+
 int serving_start(unsigned shard)
 {
     struct thread *it = &serving.threads[shard];
     *it = (struct thread){ .state = SHARD_SERVED };
     serving_prepare(&it->served, shard);
+    waiting_begin(&it->waiting, 0);
     service_expect(shard);
     if (pthread_create(&it->thread, NULL, work, it) == 0) {
-        serving.count++;
+        serving.shards[serving.count++] = shard;
         return 1;
     }
     log_system("thread_unstarted", "receiver");
     service_leave(shard);
+    waiting_end(&it->waiting);
     it->state = SHARD_IDLE;
     set(&serving.failed);
     return 0;
@@ -206,21 +253,26 @@ void serving_leave(unsigned shard)
 {
     serving.threads[shard].state = SHARD_LEFT;
     set(&serving.threads[shard].served.is_left);
+    waiting_wake(&serving.threads[shard].waiting);
 }
 
-void serving_join(void)
+unsigned serving_join(void)
 {
-    unsigned shard;
-    for (shard = 0; shard < CARRIER_SHARDS; shard++) {
-        struct thread *it = &serving.threads[shard];
-        if (it->state == SHARD_IDLE || !is_set(&it->has_ended))
+    unsigned i, before = serving.count, count = 0;
+    for (i = 0; i < before; i++) {
+        struct thread *it = &serving.threads[serving.shards[i]];
+        if (!is_set(&it->has_ended)) {
+            serving.shards[count++] = serving.shards[i];
             continue;
+        }
         if (pthread_join(it->thread, NULL) != 0)
             log_system("thread_unjoined", "receiver");
+        waiting_end(&it->waiting);
         it->state = SHARD_IDLE;
         it->has_closed = is_set(&it->is_closed);
-        serving.count--;
     }
+    serving.count = count;
+    return before - count;
 }
 
 enum shard_state serving_state(unsigned shard)

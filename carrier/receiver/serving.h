@@ -1,9 +1,10 @@
-/* The shards that a receiver serves: a thread for each. All is called by one thread, which isn't
- * one of these. */
+/* The shards that a receiver serves: a thread for each, which waits by itself until it is woken. All is called by one
+ * thread, which isn't one of these, and is woken where one of them has begun or has ended. */
 #ifndef SERVING_H
 #define SERVING_H
 
 #include "shard.h"
+#include "waiting.h"
 
 enum shard_state {
     SHARD_IDLE,   /* it has no thread */
@@ -13,10 +14,15 @@ enum shard_state {
 
 /* Prepares all. If shards come and go, one that can't be started is no fault. 0, or -1 without
  * memory. */
-int serving_begin(const struct shard_options *options, struct sessions *sessions, int come_and_go);
+int serving_begin(const struct shard_options *options, struct sessions *sessions, int come_and_go,
+                  struct waiting *owner);
 
 /* From now on these are the sessions of all. */
 void serving_use(struct sessions *sessions);
+
+/* Something has come: all shards look for it. Another file may be in the place of a store: its shards look. */
+void serving_wake(void);
+void serving_look_at_stores(void);
 
 /* Starts a shard's thread; 0 if that isn't possible. */
 int serving_start(unsigned shard);
@@ -24,8 +30,8 @@ int serving_start(unsigned shard);
 /* Its thread ends after its transaction. */
 void serving_leave(unsigned shard);
 
-/* Makes shards idle whose threads have ended. */
-void serving_join(void);
+/* Makes shards idle whose threads have ended: how many. */
+unsigned serving_join(void);
 
 enum shard_state serving_state(unsigned shard);
 
@@ -48,7 +54,9 @@ struct served {
     struct shard shard;
     struct shard_counts before; /* what was reported last, */
     uint64_t began, reported;   /* and when, in nanoseconds; when it began to work */
-    unsigned pause;             /* milliseconds after which a store that is away is opened again */
+    int is_unshown;             /* something has happened since */
+    unsigned pause;             /* milliseconds after which a store that is away is opened again: */
+    uint64_t rests;             /* nothing is done before this moment */
     uint64_t answered;          /* when the carrier answered last: its owner reads this, */
     int is_left;                /* and sets this: it is to end */
 };
@@ -59,9 +67,9 @@ void serving_prepare(struct served *it, unsigned shard);
 /* Opens it. 0, or -1 after a fault. After both shard_stop has to be called in the end. */
 int serving_open(struct served *it);
 
-/* One step of the shard, with the sessions of serving_use, and the pause after a fault of the store. 1 if there is
- * none since it is to end, or all its sessions are closed and that is the end. */
-int serving_turn(struct served *it);
+/* One step of the shard, with the sessions of serving_use; the next one is due at *until, as that of shard_step. 1 if there
+ * is none since it is to end, or all its sessions are closed and that is the end. */
+int serving_turn(struct served *it, uint64_t *until);
 
 /* Receipts that are due leave, and what was done is reported: after the last turn. */
 void serving_finish(struct served *it);

@@ -8,10 +8,15 @@
 #include <stdlib.h>
 #include <string.h>
 
-#define SECOND UINT64_C(1000000000) /* nanoseconds */
+#define MILLISECOND UINT64_C(1000000) /* nanoseconds */
+#define SECOND (1000 * MILLISECOND)
 #define QUIET (5 * SECOND)
 
-enum { FORGOTTEN = 1024 };
+enum {
+    FORGOTTEN = 1024,
+    WAIT = 100, RETRY = 20, /* milliseconds of a call that waits, after a fault, */
+    GATHERING = 3, FEW = 64 /* and after so few frames, so that more are taken together */
+};
 
 /* Nanoseconds since the last call. */
 static uint64_t lap(struct shard *s)
@@ -456,27 +461,29 @@ static void lose_store(struct shard *s)
 
 /* Loads what isn't loaded: 1 if that was done, 0 if the carrier isn't ready, -1 after a fault of
  * the store. */
-static int be_loaded(struct shard *s, int milliseconds)
+static int be_loaded(struct shard *s)
 {
     int answer = s->is_loaded ? 0 : shard_load(s);
     if (answer == 1)
-        pause_milliseconds((unsigned)milliseconds);
+        s->rests = milliseconds() + WAIT;
     else if (answer < 0)
         lose_store(s);
     return answer == 0 ? 1 : answer > 0 ? 0 : SHARD_AWAY;
 }
 
 /* Fetches frames for the next transactions: how many there are. */
-static int fetch(struct shard *s, int milliseconds)
+static int fetch(struct shard *s)
 {
     struct krbrelay_reading judged = s->reading;
     uint64_t began = nanoseconds(), last;
     uint32_t read = KRBRELAY_READ_NOTHING;
-    int count = s->carrier->fetch(s->carrier, s->frames, s->options->batch, milliseconds);
+    int count = s->carrier->fetch(s->carrier, s->frames, s->options->batch, s->carrier->file == NULL ? WAIT : 0);
     if (count >= 0)
         s->answered = nanoseconds();
     if (count == CARRIER_CHANGED)
         s->is_loaded = 0;
+    else if (count < 0)
+        s->rests = milliseconds() + RETRY;
     if (count <= 0)
         return 0;
     s->looked = nanoseconds();
@@ -551,25 +558,46 @@ static int end_step(struct shard *s, enum transaction ended, int count)
     else if (ended != TRANSACTION_FENCED && !effects_are_outside())
         close_store(s); /* a connection whose statement failed isn't used any more */
     if (ended == TRANSACTION_FAULT || ended == TRANSACTION_FENCED)
-        pause_milliseconds(50 + (unsigned)rand() % 200);
+        s->rests = milliseconds() + 50 + (unsigned)rand() % 200;
     if (ended == TRANSACTION_HELD)
         return SHARD_HELD;
     return ended == TRANSACTION_FAULT ? SHARD_AWAY : count;
 }
 
-int shard_step(struct shard *s, int milliseconds)
+/* One step, unless it rests: as shard_step. */
+static int step(struct shard *s)
 {
     int count, answer;
     forget_ended(s);
     look_at_store(s);
-    answer = be_loaded(s, milliseconds);
+    answer = be_loaded(s);
     if (answer != 1)
         return answer;
     shard_pay(s);
-    count = s->next < s->fetched ? s->fetched - s->next : fetch(s, milliseconds);
+    count = s->next < s->fetched ? s->fetched - s->next : fetch(s);
     if (count == 0 && s->is_loaded && nanoseconds() - s->looked > QUIET)
         look_at_list(s);
     return count == 0 ? 0 : end_step(s, shard_transact(s), count);
+}
+
+/* When there is something to do after a step in which nothing came. */
+static uint64_t next_time(const struct shard *s)
+{
+    uint64_t look = (s->looked + QUIET) / MILLISECOND + 1, receipt = shard_next_receipt(s);
+    return look < receipt ? look : receipt;
+}
+
+int shard_step(struct shard *s, uint64_t *until)
+{
+    uint64_t began = milliseconds();
+    int count = began < s->rests ? 0 : step(s);
+    if (count > 0 && count < FEW && s->is_loaded && s->carrier->file != NULL && s->rests < began + GATHERING)
+        s->rests = began + GATHERING;
+    if (milliseconds() < s->rests)
+        *until = s->rests;
+    else
+        *until = count != 0 || !s->is_loaded || s->carrier->file == NULL ? 0 : next_time(s);
+    return count;
 }
 
 /* ---- */

@@ -121,6 +121,7 @@ struct shard {
     uint64_t answered;             /* when the carrier answered last, */
     uint64_t looked;               /* when a frame came last, or the list was looked at */
     uint64_t looked_at_store, shown; /* when that was done last */
+    uint64_t rests;                /* nothing is done before this moment, in milliseconds */
     unsigned long turn;            /* so often it was loaded */
     int is_loaded;
     size_t open;                   /* if it is asked for, so many sessions aren't closed */
@@ -137,9 +138,11 @@ int shard_start(struct shard *shard);
 void shard_use(struct shard *shard, struct sessions *sessions);
 
 /* Fetches frames, and takes them in a transaction, or some of them. Answers how many there were; SHARD_AWAY after a fault
- * of the store, which the next step opens again; or SHARD_HELD: the effect of a text can't be had now, as the log says. */
+ * of the store, which the next step opens again; or SHARD_HELD: the effect of a text can't be had now, as the log says.
+ * The next step is due at *until, in milliseconds of the clock that only rises, or as soon as frames come. It waits for
+ * nothing, but for the store, for effects, and in calls of a carrier that wait (carrier.h). */
 enum { SHARD_AWAY = -1, SHARD_HELD = -2 };
-int shard_step(struct shard *shard, int milliseconds);
+int shard_step(struct shard *shard, uint64_t *until);
 
 void shard_stop(struct shard *shard);
 
@@ -215,5 +218,8 @@ uint32_t shard_judge(struct shard *shard, const struct receiving *of);
 void shard_pay(struct shard *shard);
 void shard_pay_rest(struct shard *shard); /* before it ends: however short the time since the last ones is */
 void shard_owe_nothing(struct shard *shard);
+
+/* When a receipt that is owed is due, in milliseconds. */
+uint64_t shard_next_receipt(const struct shard *shard);
 
 #endif

@@ -93,6 +93,17 @@ void shard_pay_rest(struct shard *s)
             pause_milliseconds(AGAIN);
 }
 
+uint64_t shard_next_receipt(const struct shard *s)
+{
+    uint64_t next = UINT64_MAX;
+    size_t i;
+    for (i = 0; i < s->owing.count; i++) {
+        uint64_t at = krbrelay_pause_end(&((const struct receiving *)s->owing.at[i])->end.paid);
+        next = at < next ? at : next;
+    }
+    return next;
+}
+
 void shard_owe_nothing(struct shard *s)
 {
     size_t i;

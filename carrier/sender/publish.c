@@ -265,6 +265,19 @@ int publish_all(struct sender *s)
     return left >= LEFT;
 }
 
+/* A shard whose list can't be had is asked for again with the next round. */
+uint64_t publish_next_time(struct sender *s)
+{
+    uint64_t next = UINT64_MAX, at;
+    size_t i;
+    for (i = 0; i < s->lane_count; i++) {
+        struct lane *lane = &s->lanes[i];
+        at = lane->undone == 0 ? UINT64_MAX : lane->has_list ? krbrelay_lane_next_time(&lane->ends) : milliseconds() + 1;
+        next = at < next ? at : next;
+    }
+    return next;
+}
+
 /* ---- Confirmations */
 
 /* The session of a confirmation, or NULL: it is of sessions that were forgotten. */

@@ -9,13 +9,15 @@
 #include <stdlib.h>
 
 enum {
-    IDLE = 20,          /* milliseconds to wait for confirmations, or texts */
+    IDLE = 20,          /* milliseconds to wait for confirmations of a carrier that waits, or until what can't be waited for */
     PAUSE = 100,        /* milliseconds after a fault, */
-    KEPT = 20,          /* and between two transactions that store only how far sessions are */
+    KEPT = 20,          /* and between two transactions that store only how far sessions are; */
+    GATHERING = 2,      /* after a round in which not much was done, so that the next one has more to do */
     FORGOTTEN = 1024    /* sessions that have ended and stay in memory, where it has fewer others */
 };
 
-#define SECOND UINT64_C(1000000000) /* in nanoseconds */
+#define MILLISECOND UINT64_C(1000000) /* in nanoseconds */
+#define SECOND (1000 * MILLISECOND)
 #define SILENCE (10 * SECOND)
 
 /* ---- Sessions */
@@ -180,7 +182,6 @@ static enum outbox_answer store(struct sender *s, int with_texts)
     give_up(s, seen);
     if (answer == SEAL_STOP)
         return sender_stop(s, s->sealing.stopped->of.name, s->sealing.stopped->reason);
-    pause_milliseconds(PAUSE);
     return OUTBOX_AGAIN;
 }
 
@@ -196,15 +197,21 @@ static uint64_t awaited(const struct sender *s)
     return frames;
 }
 
-/* Reports, each ten seconds, that nothing is carried though frames wait. That the connection is away is
- * shown where none waits, too. */
-static void report_silence(struct sender *s, size_t rose)
+/* Whether something is carried, or nothing waits for that. That the connection is away is shown where none waits, too. */
+static uint64_t note_silence(struct sender *s, size_t rose)
 {
     uint64_t backlog = awaited(s), now = nanoseconds();
     if (rose > 0 || (backlog == 0 && !s->carrier->is_away(s->carrier)))
         s->rose = now;
     if (rose > 0 || backlog == 0)
         s->told = now;
+    return backlog;
+}
+
+/* Reports, each ten seconds, that nothing is carried though frames wait. */
+static void report_silence(struct sender *s, size_t rose)
+{
+    uint64_t backlog = note_silence(s, rose), now = nanoseconds();
     if (now - s->told < SILENCE)
         return;
     log_fact(LEVEL_WARNING, "nothing_confirmed", field_number("frames", backlog),
@@ -338,6 +345,8 @@ static enum outbox_answer look(struct sender *s)
     enum outbox_answer answer;
     if (nanoseconds() - s->looked < SECOND)
         return OUTBOX_OK;
+    if (s->has_begun)
+        (void)note_silence(s, 0); /* how much waits is reported with what is carried */
     s->looked = nanoseconds();
     sender_show(s);
     service_tell_alive();
@@ -426,32 +435,74 @@ static int have_begun(struct sender *s)
     return s->has_begun;
 }
 
-/* Stores what waits, and publishes what is stored. 1 if all is done that can be. */
-static int relay(struct sender *s, enum outbox_answer *answer)
+static uint64_t earlier(uint64_t one, uint64_t other)
+{
+    return one < other ? one : other;
+}
+
+/* When there is something to do again after a round that did nothing, if nothing comes before. */
+static uint64_t next_time(struct sender *s)
+{
+    uint64_t next = earlier(publish_next_time(s), receipts_next_time(s));
+    if (s->dirty.count > 0)
+        next = earlier(next, s->kept_moment + KEPT);
+    if (s->options.drain || s->untold.count > 0)
+        next = earlier(next, milliseconds() + IDLE);
+    return earlier(next, (s->looked + SECOND) / MILLISECOND + 1);
+}
+
+/* Stores what waits: 1 if there was anything, 0 if not. */
+static int keep(struct sender *s, int texts, enum outbox_answer *answer)
 {
     uint64_t began = nanoseconds(), sealing = s->sealing.nanoseconds;
+    if (!texts && (s->dirty.count == 0 || milliseconds() - s->kept_moment < KEPT))
+        return 0;
+    *answer = store(s, texts);
+    if (*answer == OUTBOX_AGAIN)
+        s->rests = milliseconds() + PAUSE;
+    s->storing += nanoseconds() - began - (s->sealing.nanoseconds - sealing);
+    return 1;
+}
+
+/* When the next round is due after one that has left nothing. With a carrier that tells what comes, that is waited for. */
+static uint64_t rest(struct sender *s, int has_done)
+{
+    uint64_t now = milliseconds(), next = next_time(s);
+    if (s->sealable.count > 0 || next <= now || (has_done && (s->carrier->file == NULL || texts_wait(s))))
+        return 0;
+    if (has_done)
+        s->rests = now + GATHERING;
+    return has_done ? s->rests : next;
+}
+
+/* Stores what waits, and publishes what is stored. 1 if all is done that can be. */
+static int relay(struct sender *s, enum outbox_answer *answer, uint64_t *until)
+{
+    uint64_t began;
     size_t rose;
-    int has_more, texts = texts_wait(s);
+    int has_kept, has_more, waits, texts = texts_wait(s);
     if (is_drained(s, texts))
         return 1;
-    if (texts || (s->dirty.count > 0 && milliseconds() - s->kept_moment >= KEPT))
-        *answer = store(s, texts);
+    has_kept = keep(s, texts, answer);
     if (*answer < 0)
         return 1;
-    s->storing += nanoseconds() - began - (s->sealing.nanoseconds - sealing);
     began = nanoseconds();
     receipts_hear(s);
     has_more = publish_all(s);
-    rose = publish_count_carried(s, s->uncarried > 0 && !texts && !has_more ? IDLE : 0);
+    waits = s->carrier->file == NULL && s->uncarried > 0 && !texts && !has_more;
+    rose = publish_count_carried(s, waits ? IDLE : 0);
     report_silence(s, rose);
     s->carrying += nanoseconds() - began;
-    if (!texts && rose == 0 && !has_more)
-        pause_milliseconds(1);
+    *until = has_more || waits ? 0 : rest(s, has_kept || rose > 0);
     return 0;
 }
 
-int sender_step(struct sender *s, enum outbox_answer *answer)
+int sender_step(struct sender *s, enum outbox_answer *answer, uint64_t *until)
 {
+    *answer = OUTBOX_OK;
+    *until = s->rests;
+    if (milliseconds() < s->rests)
+        return 0;
     *answer = look(s);
     if (*answer == OUTBOX_OK)
         *answer = tell_untold(s);
@@ -460,8 +511,8 @@ int sender_step(struct sender *s, enum outbox_answer *answer)
     if (*answer < 0)
         return 1;
     if (have_begun(s))
-        return relay(s, answer);
-    pause_milliseconds(IDLE);
+        return relay(s, answer, until);
+    *until = milliseconds() + IDLE;
     return 0;
 }
 

@@ -89,7 +89,9 @@ struct sender {
                                  * aren't confirmed; that are carried, and wait for a receipt */
     size_t held, standing;      /* sessions that are held (seal.h); that stand */
     uint64_t kept_moment;       /* when the outbox was written last, in milliseconds */
-    uint64_t heard;             /* it was looked for receipts at this moment */
+    uint64_t heard;             /* it was looked for receipts at this moment, */
+    int is_unheard;             /* and it has to be again: some may have come since, or can't be heard now */
+    uint64_t rests;             /* after a fault nothing is done before this moment, in milliseconds */
     uint64_t storing, carrying; /* nanoseconds */
     uint64_t rose;              /* when a frame was carried last, or the carrier was there and none waited, */
     uint64_t told;              /* and when it was reported that none is, or there was no reason to */
@@ -102,8 +104,10 @@ struct sender {
  * too. */
 int sender_open(struct sender *s);
 
-/* One round. 1 if all is done that can be, or if the answer is a fault or OUTBOX_TAKEN. */
-int sender_step(struct sender *s, enum outbox_answer *answer);
+/* One round. 1 if all is done that can be, or if the answer is a fault or OUTBOX_TAKEN. Else the next one is due at
+ * *until, in milliseconds of the clock that only rises, or as soon as something comes: a text, a receipt. It waits for
+ * nothing, but for a database that another process has locked, and in calls of a carrier that wait (carrier.h). */
+int sender_step(struct sender *s, enum outbox_answer *answer, uint64_t *until);
 
 void sender_close(struct sender *s);
 
@@ -182,6 +186,9 @@ void texts_give_up(struct sender *s, sqlite3_int64 seen);
 /* Does what krb_sender says of sessions whose turn it is. 1 if more wait for theirs. */
 int publish_all(struct sender *s);
 
+/* When a session has its turn again, if nothing comes before, in milliseconds. */
+uint64_t publish_next_time(struct sender *s);
+
 /* Whether the list of a session's shard can't be had for long. */
 int publish_is_shard_away(const struct sender *s, const struct sending *it);
 
@@ -205,8 +212,10 @@ void publish_stop(struct sender *s, struct sending *it);
 /* The outcome of a receipt: the more, the later it stands here. HEARD_FAULT: it can't be heard now. */
 enum heard { HEARD_NOTHING, HEARD_DELIVERED, HEARD_STOPS, HEARD_FAULT };
 
-/* Takes the receipts that came. At the start those of sessions that aren't loaded are kept until they are. */
+/* Takes the receipts that came, unless that was done just now. At the start those of sessions that aren't loaded are kept
+ * until they are. When it has to be done again, if nothing comes before, in milliseconds. */
 void receipts_hear(struct sender *s);
+uint64_t receipts_next_time(const struct sender *s);
 
 /* Has a session hear what is kept for it, before it is in the lists above; the outcome is noted after that. */
 enum heard receipts_hear_kept(struct sender *s, struct sending *it);

@@ -8,6 +8,7 @@
 #include "ending.h"
 #include "log.h"
 #include "service.h"
+#include "waiting.h"
 #include "words.h"
 
 #include <getopt.h>
@@ -40,9 +41,16 @@ static const char usage[] =
 static enum outbox_answer serve(struct sender *s)
 {
     enum outbox_answer answer = OUTBOX_OK;
+    struct waiting waiting;
+    uint64_t until = 0;
+    waiting_begin(&waiting, 0);
+    waiting_watch(&waiting, s->options.outbox);
+    if (s->carrier->file != NULL)
+        waiting_watch(&waiting, s->carrier->file);
     service_tell_ready();
-    while (!is_ending() && !sender_step(s, &answer))
-        continue;
+    while (!is_ending() && !sender_step(s, &answer, &until))
+        (void)waiting_until(&waiting, until); /* whatever came, a round looks for it */
+    waiting_end(&waiting);
     service_tell_end();
     return answer == OUTBOX_AGAIN ? OUTBOX_OK : answer;
 }

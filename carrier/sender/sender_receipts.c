@@ -15,7 +15,7 @@
 #include <stdlib.h>
 #include <string.h>
 
-#define PAUSE UINT64_C(20000000) /* nanoseconds between two looks for receipts */
+enum { PAUSE = 20 }; /* milliseconds between two looks for receipts */
 
 /* Why a session is stopped whose texts stay in the outbox, and of which nothing leaves any more. */
 static void write_reason(struct sending *it, uint64_t n)
@@ -245,12 +245,18 @@ static void hear_again(struct sender *s)
 
 void receipts_hear(struct sender *s)
 {
-    if (nanoseconds() - s->heard < PAUSE)
+    s->is_unheard = 1;
+    if (milliseconds() - s->heard < PAUSE)
         return;
-    s->heard = nanoseconds();
+    s->heard = milliseconds();
     hear_again(s);
     if (s->carrier->receipts(s->carrier, hear, s) != 0)
-        s->heard += UINT64_C(1000000000); /* which is reported */
-    else
-        s->has_heard = 1;
+        return; /* which is reported */
+    s->has_heard = 1;
+    s->is_unheard = s->deaf.count > 0 || s->carrier->file == NULL;
+}
+
+uint64_t receipts_next_time(const struct sender *s)
+{
+    return s->is_unheard ? s->heard + PAUSE : UINT64_MAX;
 }

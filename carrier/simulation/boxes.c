@@ -56,6 +56,8 @@ void box_put(struct box *it, unsigned name)
         happened(KIND_BOUNDED, is_full != 0);
         return;
     }
+    ends_wake(SENDER, now);
+    ends_wake(SENDER_2, now);
     of->put_at[of->serials] = (unsigned short)world.second;
     room_of(it, name)[it->count[name]++] = (struct mark){ sqlite3_last_insert_rowid(it->application), of->serials++ };
     happened(KIND_MANY, has(KIND_MANY) != 0);

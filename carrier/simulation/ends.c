@@ -11,6 +11,7 @@
 
 enum {
     TRIES = 3, BATCH = 64, LONG_BATCH = 200, WAITING = 100, RESTARTED = 2000,
+    SOON = 3, LATE = 1000, RARELY = 50, /* milliseconds after which a wait ends, and how often it is late */
     LIFE = 5, LONG_LIFE = 86400, SKEW = 600, LONG_SKEW = 86400 /* seconds */
 };
 
@@ -18,6 +19,7 @@ static struct sender senders[SENDERS];
 static struct served receivers[RECEIVERS];
 static int has_opened[RECEIVERS];
 static struct shard_options shards;
+static uint64_t until; /* when the step's party is to have its next one, in milliseconds */
 static char store[PATHS], sessions_path[PATHS];
 
 /* The file of sessions that each receiver has, and a later one that it has from a moment on. */
@@ -51,6 +53,7 @@ void ends_use_sessions(unsigned within)
         sessions_forget(files[i].later);
         files[i].later = sessions_share(file);
         files[i].from = now + (within > 0 ? drawn(within) * MILLISECOND : 0);
+        ends_wake(RECEIVER + (int)i, files[i].from);
     }
     sessions_forget(file);
 }
@@ -93,7 +96,7 @@ static void start_sender(int party)
 static void step_sender(int party)
 {
     enum outbox_answer answer = OUTBOX_OK;
-    if (!sender_step(sender_of(party), &answer) && answer >= 0)
+    if (!sender_step(sender_of(party), &answer, &until) && answer >= 0)
         return;
     world.is_up[party] = 0;
     world.was_taken[party - SENDER] = answer == OUTBOX_TAKEN;
@@ -116,7 +119,7 @@ static void start_receiver(int party)
 
 static void step_receiver(int party)
 {
-    (void)serving_turn(&receivers[party - RECEIVER]); /* none of them is asked to end */
+    (void)serving_turn(&receivers[party - RECEIVER], &until); /* none of them is asked to end */
 }
 
 static void stop_receiver(int party)
@@ -150,6 +153,33 @@ static void note_end(int party)
     world.may_run[party] = !has(KIND_TAKEN_OVER);
 }
 
+int has_file(void)
+{
+    return world.seed % 2 == 1;
+}
+
+void ends_hold(int party, uint64_t moment)
+{
+    world.busy[party] = world.resumes[party] = moment;
+}
+
+void ends_wake(int party, uint64_t at)
+{
+    at += drawn(RARELY) == 0 ? drawn(LATE) * MILLISECOND : drawn(SOON) * MILLISECOND;
+    if (at < world.woken[party])
+        world.woken[party] = at;
+    if (world.is_up[party] && at < world.resumes[party])
+        world.resumes[party] = at > world.busy[party] ? at : world.busy[party];
+}
+
+/* Its next step is at its time, or as soon as something came. */
+static uint64_t end_of_wait(int party)
+{
+    uint64_t at = until < UINT64_MAX / MILLISECOND ? until * MILLISECOND : UINT64_MAX;
+    at = at < world.woken[party] ? at : world.woken[party];
+    return at > world.busy[party] ? at : world.busy[party];
+}
+
 void ends_step(int party)
 {
     static void (*const starts[])(int) = { start_receiver, start_sender };
@@ -157,6 +187,8 @@ void ends_step(int party)
     int was_up = world.is_up[party];
     uint64_t took = 0;
     world.steps++;
+    world.woken[party] = UINT64_MAX;
+    until = 0;
     if (!is_sender(party))
         give_sessions(&files[party - RECEIVER]);
     if (party_run(party, (was_up ? steps : starts)[is_sender(party)], &took)) {
@@ -167,17 +199,19 @@ void ends_step(int party)
         note_end(party);
         took += SECOND;
     }
-    world.resumes[party] = now + took;
+    ends_hold(party, now + took);
+    if (world.is_up[party])
+        world.resumes[party] = end_of_wait(party);
 }
 
-void ends_stop(int party, int is_clean, uint64_t until)
+void ends_stop(int party, int is_clean, uint64_t moment)
 {
     if (world.is_up[party] && is_clean)
         end_cleanly(party);
     else
         party_end(party);
     world.is_up[party] = 0;
-    world.resumes[party] = until;
+    ends_hold(party, moment);
     world.kills++;
 }
 
@@ -223,7 +257,7 @@ void ends_begin(void)
     world.shown = has(KIND_LATER) ? world.names - 1 : 0;
     happened(KIND_LATER, has(KIND_LATER) != 0);
     ends_write_sessions();
-    if (serving_begin(&shards, sessions_empty(), 1) != 0)
+    if (serving_begin(&shards, sessions_empty(), 1, NULL) != 0)
         exit(2);
     ends_use_sessions(0);
     world.shown = 0;

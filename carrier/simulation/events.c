@@ -155,7 +155,7 @@ static void hold_one(int party)
     world.stops++;
     if (is_sender(party))
         faults.carrier_at = now; /* it hears of no confirmation */
-    world.resumes[party] = now + drawn(6000) * MILLISECOND;
+    ends_hold(party, now + drawn(6000) * MILLISECOND);
 }
 
 /* Receivers come back after a while: so receipts of a fork come late. */

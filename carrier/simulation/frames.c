@@ -2,7 +2,7 @@
 #include "carrier.h"
 #include "clock.h"
 #include "kinds.h"
-#include "ports.h"
+#include "world.h"
 
 #include <stdlib.h>
 #include <string.h>
@@ -52,6 +52,22 @@ static struct item *put(struct items *to, const char *session, const uint8_t *by
     memcpy(it->bytes, bytes, len);
     running = before;
     return it;
+}
+
+/* A frame comes to those that serve the shard, a receipt to the senders. */
+static void put_frame(unsigned shard, const char *session, const uint8_t *frame, size_t len)
+{
+    unsigned i;
+    (void)put(&shards[shard].items, session, frame, len); /* the item: nothing more is said of it */
+    for (i = shard; has_file() && i < RECEIVERS; i += SHARDS)
+        ends_wake(RECEIVER + (int)i, moment());
+}
+
+static void wake_senders(void)
+{
+    int party;
+    for (party = SENDER; has_file() && party < SENDER + SENDERS; party++)
+        ends_wake(party, moment());
 }
 
 static void cut(struct items *it, size_t count)
@@ -210,13 +226,12 @@ static void copy_elsewhere(unsigned shard, const char *session, const uint8_t *f
     if (!has(KIND_COPIED) || faults.is_over || drawn(3) != 0)
         return;
     happened(KIND_COPIED, 1);
-    (void)put(&shards[(shard + 1) % SHARDS].items, session, frame, len);
+    put_frame((shard + 1) % SHARDS, session, frame, len);
 }
 
 static int publish(struct carrier *base, unsigned shard, const char *session, uint32_t tag, uint64_t number,
                    const uint8_t *frame, size_t len)
 {
-    struct items *to = &shards[shard].items;
     count_published(shard, session, number);
     happened(KIND_SILENT, faults.is_silent != 0);
     if (faults.is_silent || is_lost_once(&faults.loses_frame))
@@ -224,14 +239,14 @@ static int publish(struct carrier *base, unsigned shard, const char *session, ui
     copy_elsewhere(shard, session, frame, len);
     if (fails()) {
         if (drawn(HAPPENS_ALL_THE_SAME) == 0)
-            (void)put(to, session, frame, len);
+            put_frame(shard, session, frame, len);
         return drawn(2) == 0 ? 0 : CARRIER_FAULT;
     }
     if (is_struck(faults.lost, KIND_LOST))
         return 0;
-    (void)put(to, session, frame, len);
+    put_frame(shard, session, frame, len);
     if (is_struck(faults.twice, KIND_LOST))
-        (void)put(to, session, frame, len);
+        put_frame(shard, session, frame, len);
     if (is_struck(faults.lost, KIND_LOST) || is_lost_once(&faults.loses_confirmation))
         return 0;
     under_way[shard] -= under_way[shard] > 0;
@@ -251,6 +266,8 @@ static int confirmed(struct carrier *base, struct confirmed *list, size_t room, 
         *at = it->next;
         free(it);
     }
+    if (*at != NULL && has_file())
+        ends_wake(running, (*at)->due);
     return (int)count;
 }
 
@@ -330,6 +347,7 @@ static int acknowledge(struct carrier *base, unsigned shard, const struct carrie
         if (!faults.loses_receipts && !is_struck(faults.lost, KIND_LOST))
             keep_receipt(shard, &list[i]);
     }
+    wake_senders();
     return 0;
 }
 
@@ -379,6 +397,7 @@ struct carrier *carrier_open(const struct carrier_options *options)
     if (c == NULL)
         return NULL;
     c->base = (struct carrier){ incarnation_of, make, publish, confirmed, seek, fetch, behind, acknowledge,
-                                give_receipts, forget_receipt, never, never, close_carrier };
+                                give_receipts, forget_receipt, never, never, close_carrier,
+                                has_file() ? "memory" : NULL };
     return &c->base;
 }

@@ -276,6 +276,22 @@ WRAPPED(uint32_t, lane_turn, struct krbrelay_lane *lane, uint64_t at_now, struct
     return is_served;
 }
 
+WRAPPED(uint64_t, lane_next_time, struct krbrelay_lane *lane)
+{
+    struct made *made = lane->at;
+    uint64_t room = 0, next = UINT64_MAX;
+    uint32_t i;
+    if (!engine_has_any())
+        return __real_krbrelay_lane_next_time(lane);
+    if (made == NULL || !made->flow.has_list)
+        return next;
+    if (krbrelay_queue_len(&made->queue) > 0 && krbrelay_flow_room(&made->flow, &room) == KRBRELAY_OK && room > 0)
+        return 0;
+    for (i = 0; i < made->count; i++)
+        next = made->ends[i].at < next ? made->ends[i].at : next;
+    return next;
+}
+
 WRAPPED(enum krbrelay_answer, lane_sealed, struct krbrelay_lane *lane, uint32_t place, uint64_t count)
 {
     struct turns *turns = turns_of(lane);

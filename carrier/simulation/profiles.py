@@ -54,7 +54,7 @@ PASSES = [
     Row("restored+tickets", 3),                 # a stream's session that is refused counted as a carrier that is away
     Row("lost+slow+tickets+keys+kdc", 5),       # so did sessions that wait for the one before them
     Row("outbox_unknown", 4),                   # a commit that happened and said no left sessions standing, untold
-    Row("forked+tickets+keys", 1, "", 12),            # where a key was tried again, stopped sessions weren't named any more
+    Row("forked+tickets+keys", 1, "", 4),             # where a key was tried again, stopped sessions weren't named any more
     # Bounds of time and growth.
     Row("calm", 6),
     Row("calm+bursts", 3),
@@ -101,9 +101,9 @@ MUTANTS = {
     "frames go once they are carried": ("deleted+killed", 5, "LOST"),
     "receipts of other frames count": ("forked+killed", 1, "LOST"),
     "receipts from before aren't read": ("restored", 6, "LEFT_OUT"),
-    "later texts are taken first": ("bursts+carrier", 9, "OVERTAKEN"),
+    "later texts are taken first": ("bursts+carrier", 11, "OVERTAKEN"),
     "receipts aren't sealed again": ("lost+killed", 1, "STANDS"),
-    "a stream goes on without its key": ("keys+tickets", 4, "OVERTAKEN"),
-    "no session waits for the one before": ("cut+killed+slow+tickets", 2, "OVERTAKEN"),
+    "a stream goes on without its key": ("keys+tickets", 2, "OVERTAKEN"),
+    "no session waits for the one before": ("cut+killed+slow+tickets", 1, "OVERTAKEN"),
     "each shard goes on with a session": ("copied+tickets", 1, "ELSEWHERE"),
 }

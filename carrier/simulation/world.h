@@ -51,7 +51,8 @@ struct world {
     struct box boxes[BOXES], saved;
     char folder[PATHS - 40];
     int may_run[PARTIES], is_up[PARTIES], was_taken[SENDERS];
-    uint64_t resumes[PARTIES];
+    uint64_t busy[PARTIES], resumes[PARTIES]; /* each party does something, or is stopped, and waits until these moments */
+    uint64_t woken[PARTIES];        /* something comes for it then */
     unsigned long steps, kills, stops, ends, full; /* ends: of programs by themselves; full: texts that an outbox refused */
     int is_flooded;                 /* the run ends, since it would take too long */
 };
@@ -85,11 +86,20 @@ int box_run(struct box *it, const char *sql, each_row *take, void *given);
 
 void ends_begin(void);
 void ends_step(int party);
-void ends_stop(int party, int is_clean, uint64_t until);
+void ends_stop(int party, int is_clean, uint64_t moment);
 void ends_write_sessions(void);
 void ends_use_sessions(unsigned within); /* receivers use the file as it is now, each within so many milliseconds */
 int has_one_store(void);                 /* for all shards */
 uint64_t ends_next(void);
+
+/* Something comes for a party at this moment: it waits no longer than a moment after that, or a second where it isn't told. */
+void ends_wake(int party, uint64_t at);
+
+/* The party does nothing until then. */
+void ends_hold(int party, uint64_t until);
+
+/* The carrier tells that something came; else its calls wait for it. */
+int has_file(void);
 
 /* ---- events.c: what happens in a second that is disturbed; the world is fair; what a copy of an outbox knew */
 

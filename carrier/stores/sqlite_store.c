@@ -227,6 +227,12 @@ static const char *path_of_shard(const char *path, unsigned shard, char *name, s
     return NULL;
 }
 
+int sqlite_store_file(const char *path, unsigned shard, uint64_t *device, uint64_t *inode)
+{
+    char name[STORE_PATH];
+    return path_of_shard(path, shard, name, sizeof name) != NULL ? find_file(name, device, inode) : -1;
+}
+
 static const char *const opened_columns[][2] = {
     { "opened", "history TEXT NOT NULL DEFAULT ''" },
 };

@@ -51,6 +51,11 @@ struct store *store_open(const char *where, unsigned shard)
     return is_sqlite(where) ? sqlite_store_open(where + 7, shard) : postgresql_store_open(where);
 }
 
+int store_file(const char *where, unsigned shard, uint64_t *device, uint64_t *inode)
+{
+    return is_sqlite(where) ? sqlite_store_file(where + 7, shard, device, inode) : -1;
+}
+
 /* ---- What is stored of a shard and its sessions */
 
 static uint64_t number_of(const char *column)

@@ -50,6 +50,9 @@ void store_check_option(const char *program, const char *where);
  * NULL if it can't be opened. */
 struct store *store_open(const char *where, unsigned shard);
 
+/* Which file the store of a shard is: 0 and where it lies, or -1, as where it is none. */
+int store_file(const char *where, unsigned shard, uint64_t *device, uint64_t *inode);
+
 /* How far the shard was read. Answers 0, or -1 after a fault, as those below. */
 int store_reached(struct store *store, unsigned shard, struct reached *reached);
 
@@ -156,6 +159,7 @@ unsigned store_place(const struct store *store, const char *sql);
 extern const char kept_tables[];
 
 struct store *sqlite_store_open(const char *path, unsigned shard);
+int sqlite_store_file(const char *path, unsigned shard, uint64_t *device, uint64_t *inode);
 struct store *postgresql_store_open(const char *where);
 
 #endif

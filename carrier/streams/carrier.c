@@ -59,5 +59,10 @@ void carrier_check_options(const char *program, const struct carrier_options *o)
 
 struct carrier *carrier_open(const struct carrier_options *options)
 {
-    return is_sqlite(options->where) ? sqlite_carrier_open(options->where + 7) : nats_carrier_open(options);
+    return is_sqlite(options->where) ? sqlite_carrier_open(carrier_file(options)) : nats_carrier_open(options);
+}
+
+const char *carrier_file(const struct carrier_options *options)
+{
+    return is_sqlite(options->where) ? options->where + 7 : NULL;
 }

@@ -88,6 +88,9 @@ typedef void carrier_receipt(void *given, const char *session, const uint8_t *re
 /* Opens it; the options stay. NULL, with a line of the log, if it can't be opened. */
 struct carrier *carrier_open(const struct carrier_options *options);
 
+/* The `file` of such a carrier. */
+const char *carrier_file(const struct carrier_options *options);
+
 /* What a carrier does; the first member of each kind's own struct. */
 struct carrier {
     /* The incarnation of a shard, 0 if there is none yet, and its last offset, about. */
@@ -104,14 +107,14 @@ struct carrier {
                    const uint8_t *frame, size_t len);
 
     /* Takes confirmations, up to room of them, and answers how many. Waits for the first at most so
-     * long. */
+     * long, where a call waits (`file`). */
     int (*confirmed)(struct carrier *, struct confirmed *list, size_t room, int milliseconds);
 
     /* The next fetch begins after this offset of the shard, of the list that `incarnation` gave last. */
     void (*seek)(struct carrier *, unsigned shard, uint64_t offset);
 
     /* Takes the next frames, up to room of them, and answers how many. Waits for the first at most so
-     * long. CARRIER_CHANGED: it is another list, or ends before: ask for the incarnation, and seek. */
+     * long, where a call waits. CARRIER_CHANGED: it is another list, or ends before: ask for the incarnation, and seek. */
     int (*fetch)(struct carrier *, struct carried *list, size_t room, int milliseconds);
 
     /* How many frames stand after the last that was fetched: about, and as far as that is known. */
@@ -139,6 +142,10 @@ struct carrier {
     int (*is_closed)(struct carrier *);
 
     void (*close)(struct carrier *);
+
+    /* The file that is written to whenever frames or receipts come (waiting.h): then no call waits for them. NULL: calls
+     * wait, and what comes is only found by looking. */
+    const char *file;
 };
 
 struct carrier *nats_carrier_open(const struct carrier_options *options);

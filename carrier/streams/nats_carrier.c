@@ -262,7 +262,7 @@ struct carrier *nats_carrier_open(const struct carrier_options *options)
     if (c == NULL)
         return NULL;
     c->base = (struct carrier){ nats_incarnation, nats_make, nats_publish, nats_confirmed, nats_seek, nats_fetch,
-                                nats_behind, nats_acknowledge, nats_receipts, nats_forget, is_away, is_closed, close_it };
+                                nats_behind, nats_acknowledge, nats_receipts, nats_forget, is_away, is_closed, close_it, NULL };
     c->replicas = options->replicas;
     status = natsOptions_Create(&c->options);
     if (status == NATS_OK && set_options(c->options, options) == NATS_OK) {

@@ -1,7 +1,6 @@
 /* A carrier of one SQLite file, which needs no server: for one machine, and to begin with. All its
  * shards have one incarnation, which is drawn when the file is made. */
 #include "carrier.h"
-#include "clock.h"
 #include "database.h"
 #include "log.h"
 #include "text.h"
@@ -10,7 +9,7 @@
 #include <stdlib.h>
 #include <string.h>
 
-enum { PENDING = 4096, POLL = 5 };
+enum { PENDING = 4096 };
 enum {
     SELECT, SELECT_END, COUNT, ADD_RECEIPT, SELECT_RECEIPTS, DROP_RECEIPT, STATEMENTS
 };
@@ -183,11 +182,13 @@ static int copy_row(struct sqlite_carrier *c, const struct statement *select, st
 }
 
 /* What stands after the reader now. */
-static int fetch_now(struct sqlite_carrier *c, struct carried *list, size_t limit)
+static int fetch(struct carrier *base, struct carried *list, size_t limit, int milliseconds)
 {
+    struct sqlite_carrier *c = (struct sqlite_carrier *)base;
     struct statement *select = &c->statements[SELECT];
     size_t used = 0;
     int count = 0, row = 0;
+    (void)milliseconds;
     bind_number(select, 1, c->shard);
     bind_number(select, 2, (sqlite3_int64)c->after);
     bind_number(select, 3, (sqlite3_int64)limit);
@@ -200,18 +201,6 @@ static int fetch_now(struct sqlite_carrier *c, struct carried *list, size_t limi
     if (count > 0)
         c->after = list[count - 1].offset;
     return count > 0 || row >= 0 ? count : -1;
-}
-
-static int fetch(struct carrier *base, struct carried *list, size_t room, int milliseconds)
-{
-    struct sqlite_carrier *c = (struct sqlite_carrier *)base;
-    int count = fetch_now(c, list, room);
-    while (count == 0 && milliseconds > 0) {
-        pause_milliseconds(POLL);
-        milliseconds -= POLL;
-        count = fetch_now(c, list, room);
-    }
-    return count;
 }
 
 static int behind(struct carrier *base, uint64_t *frames)
@@ -328,7 +317,7 @@ struct carrier *sqlite_carrier_open(const char *path)
     if (c == NULL)
         return NULL;
     c->base = (struct carrier){ incarnation, make, publish, confirmed, seek, fetch, behind, acknowledge, receipts, forget,
-                                never, never, close_it };
+                                never, never, close_it, path };
     if (open_it(c, path) == 0)
         return &c->base;
     close_it(&c->base);

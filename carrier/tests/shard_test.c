@@ -4,6 +4,7 @@
  * Built with -Wl,--wrap=free,--wrap=krbrelay_opener_open,--wrap=krbrelay_receiver_take_many,--wrap=kept_find,
  * --wrap=opening_session. */
 #include "check.h"
+#include "clock.h"
 #include "effects.h"
 #include "kept.h"
 #include "receipts.h"
@@ -145,11 +146,25 @@ static void publish(struct carrier *carrier, const uint8_t *frame, size_t len)
     publish_as(carrier, "tom", NUMBER, frame, len);
 }
 
+/* A step, and its rest. */
+static int step(struct shard *shard)
+{
+    uint64_t until = 0, again = 0;
+    int count = shard_step(shard, &until);
+    while (milliseconds() < shard->rests) {
+        check(until == shard->rests, "the next step is due after the rest");
+        pause_milliseconds(10);
+        check(milliseconds() >= shard->rests || (shard_step(shard, &again) == 0 && again == until),
+              "one that is woken before does nothing");
+    }
+    return count;
+}
+
 static void take(struct shard *shard)
 {
     int tries;
     for (tries = 0; tries < STEPS; tries++)
-        check(shard_step(shard, 10) >= 0, "a step of the shard");
+        check(step(shard) >= 0, "a step of the shard");
 }
 
 /* A message that has no time could be of any age, so such a frame is refused. */
@@ -238,7 +253,7 @@ static void fail(struct shard *shard)
 {
     int tries, failed = 0;
     for (tries = 0; tries < STEPS && failed < 2; tries++)
-        failed += shard_step(shard, 10) < 0;
+        failed += step(shard) < 0;
     check(failed == 2, "a step whose effect fails says so, each time");
 }
 

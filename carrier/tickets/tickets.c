@@ -4,15 +4,17 @@
 #include "kerberos_inside.h"
 #include "locks.h"
 #include "log.h"
+#include "waiting.h"
 
 #include <stdlib.h>
 #include <string.h>
 
-enum { LOOK = 100, SHORTEST = 1, LONGEST = 60 }; /* milliseconds, and seconds between tries */
+enum { LOOK = 1000, SHORTEST = 1, LONGEST = 60 }; /* milliseconds, and seconds between tries */
 
 struct tickets {
     struct kerberos *kerberos; /* the thread's */
     pthread_t thread;
+    struct waiting waiting;    /* where it waits */
     pthread_mutex_t lock;      /* of what follows */
     krb5_creds *creds;         /* NULL: there is none */
     int have_tried, is_left;
@@ -125,7 +127,7 @@ static void *work(void *given)
             asked = now;
             next = ask(t, &pause) * UINT64_C(1000000000) + nanoseconds();
         }
-        pause_milliseconds(LOOK);
+        (void)waiting_until(&t->waiting, milliseconds() + LOOK); /* for the end alone */
     }
     return NULL;
 }
@@ -139,6 +141,7 @@ struct tickets *tickets_open(const struct kerberos_options *options)
         log_system("out_of_memory", "tickets");
         return NULL;
     }
+    waiting_begin(&t->waiting, 0);
     t->kerberos = kerberos_open(options, options->client);
     if (t->kerberos != NULL && pthread_mutex_init(&t->lock, NULL) == 0
         && pthread_create(&t->thread, NULL, work, t) == 0)
@@ -146,6 +149,7 @@ struct tickets *tickets_open(const struct kerberos_options *options)
     log_system("thread_unstarted", "tickets");
     if (t->kerberos != NULL)
         kerberos_close(t->kerberos);
+    waiting_end(&t->waiting);
     free(t);
     return NULL;
 }
@@ -217,8 +221,10 @@ void tickets_close(struct tickets *t)
     take_lock(&t->lock);
     t->is_left = 1;
     give_lock(&t->lock);
+    waiting_wake(&t->waiting);
     if (pthread_join(t->thread, NULL) != 0)
         log_system("thread_unjoined", "tickets");
+    waiting_end(&t->waiting);
     krb5_free_creds(t->kerberos->context, t->creds);
     kerberos_close(t->kerberos);
     free(t);

@@ -1,0 +1,106 @@
+"""Programs that have nothing to do wake rarely, with many sessions that each had a text, over SQLite; and
+each text wakes them."""
+import contextlib
+import os
+import sqlite3
+import subprocess
+import time
+
+import pytest
+from test_effects import both_programs
+
+SESSIONS, SHARDS = 10_000, 2
+WINDOW, MOST_A_SECOND = 5, 2    # seconds in which wakes are counted, of all threads of a program
+PATIENCE = 120                  # seconds
+# Texts, each put in after the one before took effect; seconds that they take at most if each wakes both ends.
+ONE_BY_ONE, AWAKE = 50, 25
+EFFECTS = "SELECT count(*) FROM effect"
+UNDONE = "SELECT (SELECT count(*) FROM text) + (SELECT count(*) FROM sealed)"
+SHARED = ("--sessions", "sessions", "--carrier", "sqlite:carrier.db")
+
+
+@pytest.fixture(scope="module")
+def programs(shared, prefix):
+    return both_programs(shared, prefix, "programs_that_wait")
+
+
+def write_sessions(folder):
+    def private(path, how):
+        return os.open(path, how, 0o600)
+    with open(folder / "sessions", "w", encoding="ascii", opener=private) as file:
+        file.writelines(f"s{i} {i % SHARDS} 18 priv {i:064x} 1 10.0.0.1 10.0.0.2\n"
+                        for i in range(SESSIONS))
+
+
+@pytest.fixture
+def running(programs, tmp_path):
+    """Both programs, in whose folder the databases are."""
+    write_sessions(tmp_path)
+    with contextlib.ExitStack() as stack:
+        def start(name, *words):
+            log = stack.enter_context(open(tmp_path / f"{name}.log", "wb"))
+            process = subprocess.Popen([f"{programs}/{name}", *SHARED, *words], cwd=tmp_path,
+                                       stderr=log)
+            stack.callback(process.wait)
+            stack.callback(process.terminate)
+            return process
+        sender = start("sender", "--outbox", "outbox.db")
+        receiver = start("receiver", "--store", "sqlite:store.db", "--shards", f"0-{SHARDS - 1}")
+        await_so(lambda: ask(tmp_path / "store.db", EFFECTS) == 0
+                 and ask(tmp_path / "outbox.db", UNDONE) == 0)
+        yield tmp_path, sender, receiver
+
+
+def await_so(is_so):
+    until = time.monotonic() + PATIENCE
+    while not is_so():
+        assert time.monotonic() < until
+        time.sleep(0.002)
+
+
+def ask(path, query):
+    """The number, or None while the file or its table isn't there, or is locked."""
+    try:
+        with contextlib.closing(sqlite3.connect(f"file:{path}?mode=ro", uri=True)) as file:
+            return file.execute(query).fetchone()[0]
+    except sqlite3.OperationalError:
+        return None
+
+
+def put(folder, names):
+    with contextlib.closing(sqlite3.connect(folder / "outbox.db", timeout=30)) as file, file:
+        file.executemany("INSERT INTO text (session, body) VALUES (?, 'x')",
+                         ((name,) for name in names))
+
+
+def wakes(process):
+    """How often its threads have waited."""
+    count = 0
+    for thread in os.listdir(f"/proc/{process.pid}/task"):
+        with open(f"/proc/{process.pid}/task/{thread}/status", encoding="ascii") as file:
+            count += sum(int(line.split()[1]) for line in file
+                         if line.startswith("voluntary_ctxt_switches"))
+    return count
+
+
+def wakes_of_a_window(processes):
+    before = [wakes(it) for it in processes]
+    time.sleep(WINDOW)
+    return [wakes(it) - count for it, count in zip(processes, before)]
+
+
+def test_idle_programs_wake_rarely(running):
+    folder, *processes = running
+    put(folder, (f"s{i}" for i in range(SESSIONS)))
+    await_so(lambda: ask(folder / "outbox.db", UNDONE) == 0)
+    assert ask(folder / "store.db", EFFECTS) == SESSIONS
+    await_so(lambda: max(wakes_of_a_window(processes)) <= MOST_A_SECOND * WINDOW)
+
+
+def test_each_text_wakes_both_ends(running):
+    folder, *_ = running
+    began = time.monotonic()
+    for count in range(ONE_BY_ONE):
+        put(folder, [f"s{count}"])
+        await_so(lambda wanted=count + 1: ask(folder / "store.db", EFFECTS) == wanted)
+    assert time.monotonic() - began < AWAKE
