@@ -10,7 +10,7 @@
 
 #include <stdint.h>
 
-enum { WATCHED = 2, BRIEF = 3 }; /* files of one program at most; milliseconds */
+enum { WATCHED = 2, BRIEF = 5 }; /* files of one program at most; milliseconds */
 
 struct waiting {
     int woken, changes;      /* descriptors: of waiting_wake, and of inotify or -1 */

@@ -15,7 +15,7 @@
 enum {
     FORGOTTEN = 1024,
     WAIT = 100, RETRY = 20, /* milliseconds of a call that waits, after a fault, */
-    GATHERING = 3, FEW = 64 /* and after so few frames, so that more are taken together */
+    GATHERING = 5, FEW = 64 /* and after so few frames, so that more are taken together */
 };
 
 /* Nanoseconds since the last call. */

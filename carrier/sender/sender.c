@@ -12,7 +12,7 @@ enum {
     IDLE = 20,          /* milliseconds to wait for confirmations of a carrier that waits, or until what can't be waited for */
     PAUSE = 100,        /* milliseconds after a fault, */
     KEPT = 20,          /* and between two transactions that store only how far sessions are; */
-    GATHERING = 2,      /* after a round in which not much was done, so that the next one has more to do */
+    GATHERING = 3,      /* after a round in which not much was done, so that the next one has more to do */
     FORGOTTEN = 1024    /* sessions that have ended and stay in memory, where it has fewer others */
 };
 

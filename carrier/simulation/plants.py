@@ -82,6 +82,10 @@ if (nanoseconds() > 30 * SECOND && nanoseconds() < 500 * SECOND) {
         return 0;
     }
     look_at_store(s)""")],
+    "a sender has no round each second": [
+        ("sender.c", "earlier(next, (s->looked + SECOND) / MILLISECOND + 1)", "next")],
+    "sessions' turns are no reason to wake": [
+        ("sender.c", "earlier(publish_next_time(s), receipts_next_time(s))", "receipts_next_time(s)")],
     # What is never deleted.
     "frames that are done stay": [("sender.c", "outbox_drop_done", "now.done == 0 && outbox_drop_done")],
     "sessions that have ended stay": [("sender.c", "outbox_forget_ended(&s->outbox, it->begun, &s->ended) != 0",
@@ -115,6 +119,7 @@ FOUND = {
     "a failed text is never put aside": ("refused+aside", 1, "NOT_ASIDE"),
     "a session is forgotten before the next one has begun": ("tickets+killed+carrier", 2, "STANDS"),
     "a receiver idles for some minutes": ("lost", 1, "LATE"),
+    "a sender has no round each second": ("later", 1, "UNHEALTHY"),
     "frames that are done stay": ("calm", 1, "KEPT"),
     "sessions that have ended stay": ("calm+tickets", 2, "KEPT"),
     "receipts of sessions that have ended stay": ("calm+tickets", 2, "KEPT"),
@@ -159,6 +164,7 @@ MADE_UP = {
         ("lost+tickets", "keys+tickets", "cut+killed+slow+tickets", "copied+stopped+tickets")),
     "owed receipts are dropped where the carrier is away": (
         "the sender probes, and a repeat owes one", ("carrier", "carrier+killed", "bursts+carrier", "carrier+lost")),
+    "sessions' turns are no reason to wake": ("a round comes each second", ("calm", "lost", "cut", "skewed")),
     "numbers aren't compared beside the owner": (
         "the owner is", ("taken_over", "killed+taken_over", "outbox_unknown", "stopped+taken_over")),
 }

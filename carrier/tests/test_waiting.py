@@ -12,8 +12,9 @@ from test_effects import both_programs
 SESSIONS, SHARDS = 10_000, 2
 WINDOW, MOST_A_SECOND = 5, 2    # seconds in which wakes are counted, of all threads of a program
 PATIENCE = 120                  # seconds
-# Texts, each put in after the one before took effect; seconds that they take at most if each wakes both ends.
-ONE_BY_ONE, AWAKE = 50, 25
+# Texts, each put in so many seconds after the one before took effect, when both ends look ever more rarely;
+# seconds that all of them take at most if each wakes both ends.
+ONE_BY_ONE, APART, AWAKE = 8, 1.4, 4
 EFFECTS = "SELECT count(*) FROM effect"
 UNDONE = "SELECT (SELECT count(*) FROM text) + (SELECT count(*) FROM sealed)"
 SHARED = ("--sessions", "sessions", "--carrier", "sqlite:carrier.db")
@@ -99,8 +100,11 @@ def test_idle_programs_wake_rarely(running):
 
 def test_each_text_wakes_both_ends(running):
     folder, *_ = running
-    began = time.monotonic()
+    took = 0.0
     for count in range(ONE_BY_ONE):
+        time.sleep(APART)
+        took -= time.monotonic()
         put(folder, [f"s{count}"])
         await_so(lambda wanted=count + 1: ask(folder / "store.db", EFFECTS) == wanted)
-    assert time.monotonic() - began < AWAKE
+        took += time.monotonic()
+    assert took < AWAKE
