@@ -136,7 +136,7 @@ def carrier(copy: Copy, what: str) -> Told:
 # ---- the packages of other languages, over the installed library
 
 OF_PACKAGE = {"rust": ("tests/frames.txt", ["cargo", "test", "--offline", "--features", "system"]),
-              "go": ("testdata/frames.txt", ["go", "test", "-race", "-count=1", "-tags=krbrelay_system", "."])}
+              "go": ("testdata/frames.txt", ["go", "test", "-count=1", "-tags=krbrelay_system", "."])}
 
 
 def package(copy: Copy, room: str) -> Told:
