@@ -6,7 +6,6 @@ import (
 	"bufio"
 	"bytes"
 	"encoding/binary"
-	"errors"
 	"fmt"
 	"io"
 	"net"
@@ -124,88 +123,102 @@ func TestTheClientIsInC(t *testing.T) {
 	endsWell(t, command, out, server)
 }
 
-// Goroutines share each handle, whichever of its calls they make: none finds it in the hands of another one. Each text
-// has a number of its own.
-func TestGoroutinesShareEachHandle(t *testing.T) {
+// Goroutines share a peer: each text has a number of its own.
+func TestGoroutinesShareAPeer(t *testing.T) {
+	one := end(t, krbrelay.Client, krbrelay.Server)
+	var sealed sync.Map
+	var group sync.WaitGroup
+	for range [4]int{} {
+		group.Add(1)
+		go func() {
+			defer group.Done()
+			for count := 0; count < 100; count++ {
+				frame, err := one.Seal([]byte("text"))
+				if err != nil {
+					t.Error(err)
+				}
+				sealed.Store(string(frame), true)
+			}
+		}()
+	}
+	group.Wait()
+	waiting := map[uint32]bool{}
+	opener := must[*krbrelay.Opener](t)(krbrelay.NewOpener(18, bytes.Repeat([]byte{number}, 32), krbrelay.Expect{Mode: krbrelay.Priv}))
+	sealed.Range(func(frame, _ any) bool {
+		body := must[*krbrelay.Body](t)(opener.Open([]byte(frame.(string)), krbrelay.Demand{}, time.Now()))
+		waiting[*body.Number] = true
+		return true
+	})
+	if numbers := must[krbrelay.Numbers](t)(one.Numbers()); numbers.Next != 400 || len(waiting) != 400 {
+		t.Error(numbers, len(waiting))
+	}
+}
+
+// Each call on a handle waits for the one before it.
+func TestCallsWaitForEachOther(t *testing.T) {
 	text, key := []byte("text"), bytes.Repeat([]byte{number}, 32)
-	session := krbrelay.Session{Mode: krbrelay.Priv, Sender: krbrelay.Client}
 	expect := krbrelay.NewExpect(krbrelay.Priv, krbrelay.Client, krbrelay.Server)
-	sealer := must[*krbrelay.Sealer](t)(krbrelay.NewSealer(18, key, session))
+	sealer := must[*krbrelay.Sealer](t)(krbrelay.NewSealer(18, key, krbrelay.Session{Mode: krbrelay.Priv, Sender: krbrelay.Client}))
 	opener := must[*krbrelay.Opener](t)(krbrelay.NewOpener(18, key, expect))
 	taker := must[*krbrelay.Receiver](t)(krbrelay.NewReceiver(18, key, expect, krbrelay.State{}))
 	peer := end(t, krbrelay.Client, krbrelay.Server)
 	frame := must[[]byte](t)(sealer.Seal(text))
-	message := krbrelay.Message{UserData: text, Time: time.Now()}
-	var sealed sync.Map
-	note := func(frame []byte, err error) error {
-		sealed.Store(string(frame), true)
-		return err
+	messages := []krbrelay.Message{{UserData: text, Time: then}}
+	handles := map[any]map[string]func(){
+		sealer: {
+			"Seal":         func() { sealer.Seal(text) },
+			"SealAt":       func() { sealer.SealAt(text, then, drawn[0]) },
+			"SealMany":     func() { sealer.SealMany(messages) },
+			"SealManyNow":  func() { sealer.SealManyNow([][]byte{text, text}) },
+			"SealRecord":   func() { sealer.SealRecord(krbrelay.Text(text)) },
+			"SealRecordAt": func() { sealer.SealRecordAt(krbrelay.Text(text), then, drawn[0]) },
+			"Next":         func() { sealer.Next() },
+			"FrameSize":    func() { sealer.FrameSize(4, then) },
+			"SetMode":      func() { sealer.SetMode(krbrelay.Priv) },
+			"Wipe":         func() { sealer.Wipe() },
+			"Close":        func() { sealer.Close() },
+		},
+		opener: {
+			"Unseal": func() { opener.Unseal(frame, 0, then) },
+			"Open":   func() { opener.Open(frame, krbrelay.Demand{}, then) },
+			"Wipe":   func() { opener.Wipe() },
+			"Close":  func() { opener.Close() },
+		},
+		taker: {
+			"Take":     func() { taker.Take(frame, then) },
+			"TakeMany": func() { taker.TakeMany([][]byte{frame}, then) },
+			"State":    func() { taker.State() },
+			"Close":    func() { taker.Close() },
+		},
+		peer: {
+			"Seal":        func() { peer.Seal(text) },
+			"SealAt":      func() { peer.SealAt(text, then, drawn[0]) },
+			"SealMany":    func() { peer.SealMany(messages) },
+			"SealManyNow": func() { peer.SealManyNow([][]byte{text, text}) },
+			"Open":        func() { peer.Open(frame, then) },
+			"Numbers":     func() { peer.Numbers() },
+			"Export":      func() { peer.Export() },
+			"Close":       func() { peer.Close() },
+		},
 	}
-	last := func(_ any, err error) error { return err }
-	handles := []struct {
-		handle any
-		calls  map[string]func() error
-	}{
-		{sealer, map[string]func() error{
-			"Seal":         func() error { return last(sealer.Seal(text)) },
-			"SealAt":       func() error { return last(sealer.SealAt(text, then, drawn[0])) },
-			"SealMany":     func() error { return last(sealer.SealMany([]krbrelay.Message{message})) },
-			"SealManyNow":  func() error { return last(sealer.SealManyNow([][]byte{text, text})) },
-			"SealRecord":   func() error { return last(sealer.SealRecord(krbrelay.Text(text))) },
-			"SealRecordAt": func() error { return last(sealer.SealRecordAt(krbrelay.Text(text), then, drawn[0])) },
-			"Next":         func() error { return last(sealer.Next()) },
-			"FrameSize":    func() error { return last(sealer.FrameSize(4, then)) },
-			"SetMode":      func() error { return sealer.SetMode(krbrelay.Priv) },
-		}},
-		{opener, map[string]func() error{
-			"Unseal": func() error { return last(opener.Unseal(frame, 0, time.Now())) },
-			"Open":   func() error { return last(opener.Open(frame, krbrelay.Demand{}, time.Now())) },
-		}},
-		{taker, map[string]func() error{
-			"Take":     func() error { return last(taker.Take(frame, time.Now())) },
-			"TakeMany": func() error { return last(taker.TakeMany([][]byte{frame}, time.Now())) },
-			"State":    func() error { return last(taker.State()) },
-		}},
-		{peer, map[string]func() error{
-			"Seal":        func() error { return note(peer.Seal(text)) },
-			"SealAt":      func() error { return last(peer.SealAt(text, then, drawn[0])) },
-			"SealMany":    func() error { return last(peer.SealMany([]krbrelay.Message{message})) },
-			"SealManyNow": func() error { return last(peer.SealManyNow([][]byte{text, text})) },
-			"Open":        func() error { return last(peer.Open(frame, time.Now())) },
-			"Numbers":     func() error { return last(peer.Numbers()) },
-			"Export":      func() error { return last(peer.Export()) },
-		}},
-	}
-	for _, it := range handles {
-		kind := reflect.TypeOf(it.handle)
-		var group sync.WaitGroup
-		for place := 0; place < kind.NumMethod(); place++ {
-			name := kind.Method(place).Name
-			call, isThere := it.calls[name]
-			if name == "Close" || name == "Wipe" {
-				continue
-			}
-			if !isThere {
-				t.Fatal("no goroutine makes the call ", kind, name)
-			}
-			for range [2]int{} {
-				group.Add(1)
-				go func() {
-					defer group.Done()
-					for count := 0; count < 100; count++ {
-						if err := call(); errors.Is(err, krbrelay.ErrEmpty) {
-							t.Error(kind, name, err)
-							return
-						}
-					}
-				}()
-			}
+	for handle, calls := range handles {
+		kind := reflect.TypeOf(handle)
+		if kind.NumMethod() != len(calls) {
+			t.Error(kind, " has other calls than are made here")
 		}
-		group.Wait()
-	}
-	count := 0
-	sealed.Range(func(any, any) bool { count++; return true })
-	if count != 200 {
-		t.Error(count, " different frames of 200")
+		for name, call := range calls {
+			release, done := krbrelay.Held(handle), make(chan bool)
+			go func() {
+				call()
+				close(done)
+			}()
+			select {
+			case <-done:
+				t.Error(kind, name, "didn't wait")
+			case <-time.After(20 * time.Millisecond):
+			}
+			release()
+			<-done
+		}
 	}
 }

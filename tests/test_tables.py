@@ -327,6 +327,25 @@ def of_limits():
         yield f"the text of {name} has room", len(row["text"].encode()) < size, True
 
 
+def of_engine():
+    """Each pause and each bound of both ends has a row, and is the same in code, definitions and model."""
+    model = of_python("carrier/simulation/model.py")
+    table = tomllib.loads(building.text_of("tables/engine.toml"))
+    below = {(row["code"], row["number"]) for row in table["krb_engine"].values()}
+    for crate, rows in table.items():
+        folder = os.path.join(building.TOP, "crates", crate)
+        code, named = ("".join(building.text_of(path) for path in sorted(glob.glob(f"{folder}/{of}")))
+                       for of in ("src/*.rt", "specs/*.antt"))
+        constants_of = dict(re.findall(r"^const ([A-Z_]+): u64 = ([\d_]+);", code, re.M))
+        defined = dict(re.findall(r"^([a-z_]+) = (\d+)$", named, re.M))
+        own = {it for it in constants_of if crate == "krb_engine" or (it, int(constants_of[it])) not in below}
+        yield f"tables/engine.toml, the constants of {crate}", own, {it["code"] for it in rows.values()}
+        yield f"tables/engine.toml, the definitions of {crate}", set(defined) - set(rows), set()
+        for name, row in rows.items():
+            copies = [constants_of[row["code"]], defined[name], *([model[row["model"]]] if "model" in row else [])]
+            yield f"tables/engine.toml, {crate}.{name}", {int(it) for it in copies}, {row["number"]}
+
+
 def limits_of_bindings():
     """The limits that the Rust crate and the Go package name, as the header names them."""
     for path, pattern in (("rust/src/lib.rs", r"const (\w+): usize = ([\d_]+);"), ("go/krbrelay.go", r"^\t(\w+) += ([\d_]+)$")):
@@ -591,6 +610,11 @@ def test_refusals(found, wanted):
 
 @compared(of_limits)
 def test_limits(found, wanted):
+    assert found == wanted
+
+
+@compared(of_engine)
+def test_limits_of_the_engine(found, wanted):
     assert found == wanted
 
 

@@ -49,6 +49,24 @@ def test_a_script_says_what_its_head_says(name, tmp_path):
     assert (done.stdout, done.stderr) == (re.sub(r"(?m)^# ?", "", head), "") and not os.listdir(tmp_path)
 
 
+def test_a_purge_keeps_what_has_texts_or_keys(tmp_path):
+    """And removes the folders that have nothing."""
+    with open(os.path.join(SOURCES, "../packaging/debian/krbrelay-carrier.postrm"), encoding="ascii") as file:
+        script = file.read()
+    kept = {"etc/krbrelay/sessions": b"a key", "var/lib/krbrelay/outbox.db": b"texts", "var/lib/krbrelay/store.db": b"effects"}
+    for left in (kept, {}):
+        place = tmp_path / str(len(left))
+        moved = re.sub(r"(?<=[ \n])/(?=etc|var)", f"{place}/", script)
+        assert moved != script
+        for folder in ("etc/krbrelay", "var/lib/krbrelay"):
+            (place / folder).mkdir(parents=True)
+        for name, content in left.items():
+            (place / name).write_bytes(content)
+        subprocess.run(["sh", "-c", moved, "postrm", "purge"], check=True)
+        assert {name: (place / name).read_bytes() for name in left} == left
+        assert os.path.isdir(place / "etc/krbrelay") == os.path.isdir(place / "var/lib/krbrelay") == bool(left)
+
+
 @pytest.mark.parametrize("name", ["put", "get"])
 def test_the_manual_of_put_and_get_has_each_option(name):
     words = [sys.executable, os.path.join(SOURCES, "../python/krbrelay/carrier.py"), name, "--help"]

@@ -150,6 +150,12 @@ def package(copy: Copy, room: str) -> Told:
                     env={**os.environ, **bindings.by_prefix(copy.installed), "KRBRELAY_TARBALL": f"{copy.top}/c"})
 
 
+def python(copy: Copy, name: str) -> Told:
+    """Tests of the Python package, over the library."""
+    return copy.run(["python3", "-m", "unittest", "-q", name], cwd=f"{copy.top}/python/tests",
+                    env={**os.environ, "KRBRELAY_LIBRARY": f"{copy.installed}/lib/libkrbrelay.so.1"})
+
+
 # ---- tools, and the prover
 
 # Whether plants apply says nothing in a copy that has one.
@@ -160,6 +166,7 @@ def tool(copy: Copy, what: str) -> Told:
     copy.commit()
     return copy.run({"self": ["pytest", "-q", "-x", "--deselect", OF_PLANTS, "tests/test_tools.py"],
                      "tables": ["pytest", "-q", "-x", "tests/test_tables.py"],
+                     "packages": ["pytest", "-q", "-x", "carrier/tests/test_packages.py"],
                      "verdicts": ["pytest", "-q", "-x", "-k", "verdict", "tests/test_release.py"],
                      "test_building": ["pytest", "-q", "-x", "tests/test_building.py"],
                      "test_parts": ["pytest", "-q", "-x", "tests/test_parts.py"],
@@ -210,7 +217,7 @@ def prover(copy: Copy, name: str, function: str) -> Told:
 
 
 CHECKS: dict[str, Callable[..., Told]] = {"c": c_test, "program": of_program, "carrier": carrier,
-                                          "package": package, "tools": tool, "crate": crate, "sweep": sweep,
+                                          "package": package, "python": python, "tools": tool, "crate": crate, "sweep": sweep,
                                           "prover": prover}
 
 
