@@ -1,4 +1,5 @@
 #include "outbox.h"
+#include "clock.h"
 #include "log.h"
 #include "text.h"
 
@@ -26,7 +27,8 @@ static const char tables[] =
     "CREATE TABLE IF NOT EXISTS session (name TEXT PRIMARY KEY, next INTEGER NOT NULL,"
     " carried INTEGER NOT NULL, at INTEGER NOT NULL) WITHOUT ROWID;"
     "CREATE TABLE IF NOT EXISTS text (id INTEGER PRIMARY KEY AUTOINCREMENT, session TEXT NOT NULL,"
-    " body BLOB, since INTEGER NOT NULL DEFAULT (CAST(strftime('%s') AS INTEGER)));"
+    " body BLOB, since INTEGER NOT NULL DEFAULT (CAST(strftime('%s') AS INTEGER)),"
+    " millisecond INTEGER NOT NULL DEFAULT (CAST(substr(strftime('%f'), 4) AS INTEGER)));"
     "CREATE TABLE IF NOT EXISTS closed (session TEXT PRIMARY KEY) WITHOUT ROWID;"
     "CREATE TRIGGER IF NOT EXISTS nothing_after_the_close BEFORE INSERT ON text"
     " WHEN EXISTS (SELECT 1 FROM closed WHERE session = NEW.session)"
@@ -44,7 +46,7 @@ static const char tables[] =
     "CREATE TABLE IF NOT EXISTS frame (session TEXT NOT NULL, number INTEGER NOT NULL,"
     " frame BLOB NOT NULL, PRIMARY KEY (session, number));"
     "CREATE TABLE IF NOT EXISTS sealed (text INTEGER PRIMARY KEY, session TEXT NOT NULL,"
-    " number INTEGER NOT NULL, part INTEGER NOT NULL);"
+    " number INTEGER NOT NULL, part INTEGER NOT NULL, put INTEGER NOT NULL DEFAULT 0);"
     "CREATE INDEX IF NOT EXISTS sealed_number ON sealed (session, number);"
     "CREATE TABLE IF NOT EXISTS opened (name TEXT PRIMARY KEY, stream TEXT NOT NULL,"
     " turn INTEGER NOT NULL, before TEXT NOT NULL, shard INTEGER NOT NULL, since INTEGER NOT NULL,"
@@ -67,17 +69,20 @@ static const char *const columns[][2] = {
     { "session", "stop_since INTEGER NOT NULL DEFAULT 0" },
     { "frame", "history BLOB NOT NULL DEFAULT x''" },
     { "text", "since INTEGER NOT NULL DEFAULT 0" },
+    { "text", "millisecond INTEGER NOT NULL DEFAULT 0" },
+    { "sealed", "put INTEGER NOT NULL DEFAULT 0" },
     { "owner", "renewed INTEGER NOT NULL DEFAULT 0" },
 };
 
+/* A text, with the millisecond since 1970 in which it was put in, 0 if that isn't known. */
+#define A_TEXT "SELECT id, session, body, iif(since = 0, 0, since * 1000 + millisecond) FROM text"
 #define OPENED "name, stream, before, etype, turn, since, shard, closed, kvno, wrapping, key"
 
 static const char *const sql[OUTBOX_STATEMENTS] = {
     [LOAD_SESSION] = ("SELECT next, carried, at, incarnation, shard, iif(done < 0, carried, done),"
                       " history, stands FROM session WHERE name = ?"),
-    [SELECT_TEXTS] = "SELECT id, session, body FROM text WHERE id > ? ORDER BY id LIMIT ?",
-    [SELECT_WAITING] = ("SELECT id, session, body FROM text WHERE session = ? AND id <= ? ORDER BY id"
-                        " LIMIT ?"),
+    [SELECT_TEXTS] = A_TEXT " WHERE id > ? ORDER BY id LIMIT ?",
+    [SELECT_WAITING] = A_TEXT " WHERE session = ? AND id <= ? ORDER BY id LIMIT ?",
     [HAS_TEXT] = "SELECT 1 FROM text WHERE id > ? LIMIT 1",
     [DROP_TEXTS] = "DELETE FROM text WHERE id >= ? AND id <= ?",
     [SELECT_HISTORY] = "SELECT history FROM frame WHERE session = ? AND number = ?",
@@ -86,6 +91,7 @@ static const char *const sql[OUTBOX_STATEMENTS] = {
     [SELECT_FRAMES] = ("SELECT number, frame FROM frame WHERE session = ? AND number >= ?"
                        " ORDER BY number LIMIT ?"),
     [DROP_FRAMES] = "DELETE FROM frame WHERE session = ? AND number < ?",
+    [SELECT_PUT] = "SELECT put FROM sealed WHERE session = ? AND number < ? AND put > 0",
     [DROP_SEALED] = "DELETE FROM sealed WHERE session = ? AND number < ?",
     [SET_NEXT] = ("INSERT INTO session (name, next, carried, at, shard, done)"
                   " SELECT ?2, ?1, ?5, 0, ?4, ?5"
@@ -128,7 +134,7 @@ static const char *const sql[OUTBOX_STATEMENTS] = {
 
 static const char *const rows_sql[OUTBOX_ROWS] = {
     [ADD_FRAME] = "INSERT INTO frame (session, number, frame, history) VALUES (?, ?, ?, ?)",
-    [ADD_SEALED] = "INSERT INTO sealed (text, session, number, part) VALUES (?, ?, ?, ?)",
+    [ADD_SEALED] = "INSERT INTO sealed (text, session, number, part, put) VALUES (?, ?, ?, ?, ?)",
 };
 
 /* The number that a question has for its answer, 0 if there is none; or -1 after a fault. */
@@ -332,6 +338,7 @@ int outbox_next_text(struct statement *select, struct waiting_text *text)
     text->session = (const char *)sqlite3_column_text(select->at, 1);
     text->body = sqlite3_column_blob(select->at, 2);
     text->len = (size_t)sqlite3_column_bytes(select->at, 2);
+    text->put = sqlite3_column_int64(select->at, 3);
     if (text->body == NULL && sqlite3_column_type(select->at, 2) != SQLITE_NULL)
         text->body = (const uint8_t *)""; /* a text of no bytes isn't the close */
     return text->session != NULL ? 1 : -1;
@@ -365,15 +372,16 @@ int outbox_add_frame(struct outbox *o, const char *session, uint64_t number, con
     return add_row(add);
 }
 
-int outbox_add_sealed(struct outbox *o, sqlite3_int64 text, const char *session, uint64_t number,
+int outbox_add_sealed(struct outbox *o, const struct waiting_text *text, const char *session, uint64_t number,
                       unsigned part)
 {
     struct rows *add = &o->rows[ADD_SEALED];
     int at = next_row(add);
-    bind_number(&add->all, at + 1, text);
+    bind_number(&add->all, at + 1, text->id);
     bind_text(&add->all, at + 2, session);
     bind_number(&add->all, at + 3, (sqlite3_int64)number);
     bind_number(&add->all, at + 4, part);
+    bind_number(&add->all, at + 5, text->put);
     return add_row(add);
 }
 
@@ -417,9 +425,48 @@ int outbox_set_carried(struct outbox *o, const char *session, const struct outbo
     return step_once(set);
 }
 
+/* ---- How long texts took */
+
+const double delay_bounds[DELAY_BOUNDS_COUNT] = { DELAY_BOUNDS(AND_COMMA) };
+
+/* The clock may have been set back: then it took no time. */
+static void add_delay(struct delays *delays, sqlite3_int64 put, sqlite3_int64 now)
+{
+    double seconds = now > put ? (double)(now - put) / 1e3 : 0;
+    unsigned i = 0;
+    while (i < DELAY_BOUNDS_COUNT && seconds > delay_bounds[i])
+        i++;
+    delays->counts[i]++;
+    delays->seconds += seconds;
+}
+
+static void join_delays(struct delays *delays, const struct delays *more)
+{
+    unsigned i;
+    for (i = 0; i <= DELAY_BOUNDS_COUNT; i++)
+        delays->counts[i] += more->counts[i];
+    delays->seconds += more->seconds;
+}
+
+/* Counts the texts of a session below a number, of which a receipt says that they took effect. */
+static int count_delays(struct outbox *o, const char *session, uint64_t done)
+{
+    struct statement *select = &o->statements[SELECT_PUT];
+    const struct krbrelay_moment moment = read_clock();
+    const sqlite3_int64 now = (sqlite3_int64)(moment.seconds * 1000 + moment.microseconds / 1000);
+    int row;
+    bind_text(select, 1, session);
+    bind_number(select, 2, (sqlite3_int64)done);
+    while ((row = step_row(select)) == 1)
+        add_delay(&o->taken, sqlite3_column_int64(select->at, 0), now);
+    end_rows(select);
+    return row;
+}
+
 int outbox_drop_done(struct outbox *o, const char *session, uint64_t done)
 {
-    return drop_below(&o->statements[DROP_FRAMES], session, done) == 0
+    return count_delays(o, session, done) == 0
+                   && drop_below(&o->statements[DROP_FRAMES], session, done) == 0
                    && drop_below(&o->statements[DROP_SEALED], session, done) == 0
                ? 0 : -1;
 }
@@ -474,13 +521,18 @@ int outbox_drop_stopped(struct outbox *o)
 
 int outbox_commit(struct outbox *o)
 {
-    return outbox_insert(o) == 0 ? run(o->db, "COMMIT") : -1;
+    if (outbox_insert(o) != 0 || run(o->db, "COMMIT") != 0)
+        return -1;
+    join_delays(&o->delays, &o->taken);
+    o->taken = (struct delays){ .seconds = 0 };
+    return 0;
 }
 
 void outbox_rollback(struct outbox *o)
 {
     forget_rows(&o->rows[ADD_FRAME]);
     forget_rows(&o->rows[ADD_SEALED]);
+    o->taken = (struct delays){ .seconds = 0 };
     roll_back(o->db);
 }
 
