@@ -91,8 +91,7 @@ static const char *const sql[OUTBOX_STATEMENTS] = {
     [SELECT_FRAMES] = ("SELECT number, frame FROM frame WHERE session = ? AND number >= ?"
                        " ORDER BY number LIMIT ?"),
     [DROP_FRAMES] = "DELETE FROM frame WHERE session = ? AND number < ?",
-    [SELECT_PUT] = "SELECT put FROM sealed WHERE session = ? AND number < ? AND put > 0",
-    [DROP_SEALED] = "DELETE FROM sealed WHERE session = ? AND number < ?",
+    [DROP_SEALED] = "DELETE FROM sealed WHERE session = ? AND number < ? AND note_delay(put)",
     [SET_NEXT] = ("INSERT INTO session (name, next, carried, at, shard, done)"
                   " SELECT ?2, ?1, ?5, 0, ?4, ?5"
                   " WHERE ?3 = ?6 OR EXISTS (SELECT 1 FROM session WHERE name = ?2)"
@@ -147,6 +146,48 @@ static int read_number(struct outbox *o, enum outbox_statement question, uint64_
     return row >= 0 ? 0 : -1;
 }
 
+/* ---- How long texts took */
+
+static void add_delay(struct delays *delays, double seconds)
+{
+    static const double bounds[DELAY_BOUNDS_COUNT] = { DELAY_BOUNDS(AND_COMMA) };
+    unsigned i = 0;
+    while (i < DELAY_BOUNDS_COUNT && seconds > bounds[i])
+        i++;
+    delays->counts[i]++;
+    delays->seconds += seconds;
+}
+
+static void join_delays(struct delays *delays, const struct delays *more)
+{
+    unsigned i;
+    for (i = 0; i <= DELAY_BOUNDS_COUNT; i++)
+        delays->counts[i] += more->counts[i];
+    delays->seconds += more->seconds;
+}
+
+/* The function of SQL note_delay(put), which is true of each row, and counts a text whose insertion is known. The clock may
+ * have been set back since: then it took no time. */
+static void note_delay(sqlite3_context *context, int count, sqlite3_value **values)
+{
+    struct outbox *o = sqlite3_user_data(context);
+    const sqlite3_int64 put = count == 1 ? sqlite3_value_int64(values[0]) : 0;
+    const sqlite3_int64 now = (sqlite3_int64)(o->clock.seconds * 1000 + o->clock.microseconds / 1000);
+    if (put > 0)
+        add_delay(&o->taken, now > put ? (double)(now - put) / 1e3 : 0);
+    sqlite3_result_int(context, 1);
+}
+
+static int add_function(struct outbox *o)
+{
+    if (sqlite3_create_function(o->db, "note_delay", 1, SQLITE_UTF8, o, note_delay, NULL, NULL) == SQLITE_OK)
+        return 0;
+    log_system("out_of_memory", "outbox");
+    return -1;
+}
+
+/* ---- */
+
 static int complete(struct outbox *o)
 {
     if (begin_writing(o->db) != 0)
@@ -176,7 +217,7 @@ int outbox_open(struct outbox *o, const char *path)
         return -1;
     }
     o->db = open_database(path, tables);
-    if (o->db == NULL || find_file(path, &o->device, &o->inode) != 0 || complete(o) != 0
+    if (o->db == NULL || find_file(path, &o->device, &o->inode) != 0 || complete(o) != 0 || add_function(o) != 0
         || prepare_all(o->db, o->statements, sql, OUTBOX_STATEMENTS) != 0
         || prepare_rows(o->db, &o->rows[ADD_FRAME], rows_sql[ADD_FRAME]) != 0
         || prepare_rows(o->db, &o->rows[ADD_SEALED], rows_sql[ADD_SEALED]) != 0)
@@ -425,48 +466,10 @@ int outbox_set_carried(struct outbox *o, const char *session, const struct outbo
     return step_once(set);
 }
 
-/* ---- How long texts took */
-
-const double delay_bounds[DELAY_BOUNDS_COUNT] = { DELAY_BOUNDS(AND_COMMA) };
-
-/* The clock may have been set back: then it took no time. */
-static void add_delay(struct delays *delays, sqlite3_int64 put, sqlite3_int64 now)
-{
-    double seconds = now > put ? (double)(now - put) / 1e3 : 0;
-    unsigned i = 0;
-    while (i < DELAY_BOUNDS_COUNT && seconds > delay_bounds[i])
-        i++;
-    delays->counts[i]++;
-    delays->seconds += seconds;
-}
-
-static void join_delays(struct delays *delays, const struct delays *more)
-{
-    unsigned i;
-    for (i = 0; i <= DELAY_BOUNDS_COUNT; i++)
-        delays->counts[i] += more->counts[i];
-    delays->seconds += more->seconds;
-}
-
-/* Counts the texts of a session below a number, of which a receipt says that they took effect. */
-static int count_delays(struct outbox *o, const char *session, uint64_t done)
-{
-    struct statement *select = &o->statements[SELECT_PUT];
-    const struct krbrelay_moment moment = read_clock();
-    const sqlite3_int64 now = (sqlite3_int64)(moment.seconds * 1000 + moment.microseconds / 1000);
-    int row;
-    bind_text(select, 1, session);
-    bind_number(select, 2, (sqlite3_int64)done);
-    while ((row = step_row(select)) == 1)
-        add_delay(&o->taken, sqlite3_column_int64(select->at, 0), now);
-    end_rows(select);
-    return row;
-}
-
 int outbox_drop_done(struct outbox *o, const char *session, uint64_t done)
 {
-    return count_delays(o, session, done) == 0
-                   && drop_below(&o->statements[DROP_FRAMES], session, done) == 0
+    o->clock = read_clock();
+    return drop_below(&o->statements[DROP_FRAMES], session, done) == 0
                    && drop_below(&o->statements[DROP_SEALED], session, done) == 0
                ? 0 : -1;
 }

@@ -35,7 +35,7 @@
 
 enum outbox_statement {
     LOAD_SESSION, SELECT_TEXTS, SELECT_WAITING, HAS_TEXT, DROP_TEXTS, SELECT_FRAMES, DROP_FRAMES,
-    SELECT_HISTORY, SET_STANDS, SELECT_PUT, DROP_SEALED,
+    SELECT_HISTORY, SET_STANDS, DROP_SEALED,
     SET_NEXT, SET_CARRIED, SELECT_OWNER, SELECT_SENDING, SELECT_STOPS, SELECT_STOP, ADD_PROGRESS, SET_STOP, ADD_STOPPED, DROP_STOPPED, END_STOPPED,
     COUNT_STOPPED, COUNT_TEXTS,
     OLDEST_TEXT, ADD_OPENED, SELECT_OPENED, SELECT_STREAM, CLOSE_OPENED, SELECT_ENDED, DROP_OPENED, FORGET_SESSION,
@@ -52,14 +52,14 @@ enum { OUTBOX_PATH = 4096 };
     X(0.01) X(0.03) X(0.1) X(0.3) X(1) X(3) X(10) X(30) X(100) X(300) X(1000) X(3600) X(86400)
 #define AND_COMMA(bound) bound,
 enum { DELAY_BOUNDS_COUNT = 13 };
-extern const double delay_bounds[DELAY_BOUNDS_COUNT];
 struct delays { uint64_t counts[DELAY_BOUNDS_COUNT + 1]; double seconds; };
 
 struct outbox {
     sqlite3 *db;
     struct statement statements[OUTBOX_STATEMENTS];
     struct rows rows[OUTBOX_ROWS];
-    struct delays delays, taken; /* of texts that were dropped; those of this transaction, before it is committed */
+    struct delays delays, taken; /* of texts that were dropped; those of this transaction, before it is committed, */
+    struct krbrelay_moment clock; /* and when that was */
     uint64_t turn;      /* those who opened this outbox are counted: this is the turn'th */
     char path[OUTBOX_PATH]; /* where it is, and which file is there */
     uint64_t device, inode;

@@ -100,7 +100,7 @@ FOUND = {
     "receipts leave before the commit": ("uncommitted", 13, "LOST"),
     "what was dropped stays": ("uncommitted", 1, "LOST"),
     "an early frame is taken for nobody's": ("cut", 1, "STANDS"),
-    "a repeat is taken for nobody's": ("lost+killed", 2, "STANDS"),
+    "a repeat is taken for nobody's": ("lost+killed", 25, "STANDS"),
     "a refused frame is taken for nobody's": ("skewed", 1, "UNTRUE"),
     "a frame is accepted at any number": ("lost", 1, "OVERTAKEN"),
     "one item in a read is skipped": ("calm", 1, "LATE"),
