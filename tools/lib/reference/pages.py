@@ -645,22 +645,52 @@ def source_in(comment: str, head: str) -> str:
     return source_of(comment) or source_of(head) or OWN
 
 
-def source_file(project: Project, target: Target) -> str:
-    """The file in which the item, the clause or the definition of a target stands."""
+def place_in(file: str, line: int, clauses: List[Clause], rest: List[str]) -> str:
+    """The place of a clause, by the end of its anchor, of what stands at a line; of the whole where it is none."""
+    names = {f"requires.{it.name}" if it.kind == "requires" else it.name: it.line for it in clauses if it.name}
+    return f"{file}#L{names.get('.'.join(rest), line)}"
+
+
+def place_in_item(item: Item, rest: List[str]) -> str:
+    """The same of a type or a trait: of its own clauses, a function's, or those of a trait that it implements."""
+    own = [it for part in item.implementations if not part.trait for it in part.functions if it.is_public]
+    for made in [*item.functions, *own]:
+        if rest and made.name == rest[0]:
+            return place_in(made.file, made.line, made.clauses, rest[1:])
+    for part in item.implementations:
+        if rest and part.trait and part.clauses and part.label() == rest[0]:
+            return place_in(part.file, item.line, part.clauses, rest[1:])
+    return place_in(item.file, item.line, item.clauses, rest)
+
+
+def source_place(project: Project, target: Target) -> str:
+    """The file in which the item, the clause or the definition of a target stands, with its line; of a crate its root."""
     crate = project.crates.get(target.page)
     first, *rest = target.anchor.split(".")
     if first == "specs":
-        module = project.module_of(target.page, ".".join(rest[:-1]))
+        module, name = project.module_of(target.page, ".".join(rest[:-1])), rest[-1]
+        if module is None:
+            module, name = project.module_of(target.page, ".".join(rest)), ""
         assert module is not None
-        return module.file
+        return next((f"{it.file}#L{it.line}" for it in module.definitions if it.ref.word == name), module.file)
     assert crate is not None
     if first in crate.functions:
-        return crate.functions[first].file
-    if first not in crate.items:
-        return f"crates/{target.page}/src/lib.rt"
-    item = crate.items[first]
-    made = [*item.functions, *(it for part in item.implementations for it in part.functions)]
-    return next((it.file for it in made if rest and it.name == rest[0]), item.file)
+        made = crate.functions[first]
+        return place_in(made.file, made.line, made.clauses, rest)
+    return place_in_item(crate.items[first], rest) if first in crate.items else f"crates/{target.page}/src/lib.rt"
+
+
+def lines_of(project: Project, crates: List[Page]) -> Dict[Tuple[str, str], str]:
+    """The lines of what the pages of crates show, and of all definitions, by the file and the name."""
+    found: Dict[Tuple[str, str], str] = {}
+    for page in crates:
+        for anchor in page.anchors():
+            file, _, line = source_place(project, Target(page.name, anchor)).partition("#L")
+            found[file, anchor] = line
+    for crate in project.crates.values():
+        for module in crate.modules.values():
+            found.update(((it.file, it.ref.word), str(it.line)) for it in module.definitions)
+    return found
 
 
 def pages_of(project: Project) -> List[Page]:

@@ -14,7 +14,7 @@ STATED = ("ensures", "ghost", "invariant")      # what a clause has to be to pro
 INTRODUCTION = (
     "Every function of every crate is proved to be memory safe, not to overflow, and to return,"
     " unless it waits for another thread. Beyond that, these are the public types and functions"
-    " with what is proved of them. Each name leads to the file that has its clause.")
+    " with what is proved of them. Each name leads to the line of its item or clause.")
 
 
 def parts_of(page: Page) -> Iterator[Tuple[Heading, List[Block]]]:
