@@ -525,9 +525,9 @@ class Writer:
                        Inline(" on whatever frames come. The prover has checked both. A reader has to"
                               " check that they say what is wanted, so has to believe the"
                               " definitions that they speak of. " + about)]),
-            Paragraph([Inline("Each lane of "), *code("relay", Target("krb_relay", "relay")),
-                       Inline(" is one instance: the definitions with which its contract says so"
-                              " are in the reference of its crates.")])]
+            Paragraph([Inline("The promise holds of every lane of "), *code("relay", Target("krb_relay", "relay")),
+                       Inline(": the definitions with which its contract says so are in the reference of its"
+                              " crates.")])]
         for crate, name, made in self.headline_calls():
             blocks += [Heading(2, f"The contract of {name.replace('.', '::')}", name.lower()),
                        Source(made.signature, "rust",
