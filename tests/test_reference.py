@@ -305,8 +305,9 @@ def test_whole():
     assert all(len(list(it.anchors())) == len(anchors[it.name]) for it in every), "no anchor twice"
     assert {"relay", "relay.whole", "relay.stopped"} <= anchors["krb_relay"], "clauses of relay"
     assert {"specs.Planned.Headline", "specs.Planned.IsPaired"} <= anchors["krb_peers"], "what is shown of a lane"
-    assert ({"krb_peers.Claims", "krb_peers.Attempt", "krb_aes.Cipher"} <= anchors["headline"]
-            and "krb_peers.Planned" not in anchors["headline"]), "what the headline reaches"
+    modules = {row[0][0].text for block in every[1].blocks if isinstance(block, pages.Table) for row in block.rows}
+    assert ({"krb_peers: Claims", "krb_peers: Attempt", "krb_aes: Cipher"} <= modules
+            and "krb_peers: Planned" not in modules), "what the headline reaches"
     made = pages_html.files_of(every)
     files = {name: Reader(text) for name, text in made.items() if name.endswith(".html")}
     assert all(it.right and not it.open for it in files.values()), "whole HTML"

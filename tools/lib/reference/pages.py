@@ -537,12 +537,13 @@ class Writer:
                 block.anchor = ""
                 blocks.append(block)
         blocks += [Heading(2, "The definitions", "definitions"),
-                   Paragraph(plain("The modules that the contracts reach in fewer steps come"
-                                   " first. The source is the standard that the definition, or the"
-                                   " head of its file, cites; the other definitions are this"
-                                   " project's."))]
-        for (crate, module), found in self.by_module(definitions).items():
-            blocks += self.module_rows(crate, module, found)
+                   Paragraph(plain("Each module is a row, with its definitions below it; those that the"
+                                   " contracts reach in fewer steps come first. The source is the"
+                                   " standard that the definition, or the head of its file, cites;"
+                                   " the other definitions are this project's.")),
+                   Table(["Definition", "What it says", "Source", "Lines"],
+                         [row for (crate, module), found in self.by_module(definitions).items()
+                          for row in self.module_rows(crate, module, found)])]
         blocks += self.headline_types()
         blocks += self.headline_words()
         return Page(HEADLINE, "What the headline rests on", blocks)
@@ -553,23 +554,18 @@ class Writer:
             found.setdefault((definition.ref.crate, definition.ref.module), []).append(definition)
         return found
 
-    def module_rows(self, crate: str, name: str, found: List[Definition]) -> Iterator[Block]:
+    def module_rows(self, crate: str, name: str, found: List[Definition]) -> Iterator[List[List[Inline]]]:
+        """The row of a module, and those of its definitions."""
         module = self.project.module_of(crate, name)
         assert module is not None
-        lines = sum(it.lines() for it in found)
-        yield Heading(3, f"{crate}: {name}", f"{crate}.{name}")
         about = sentence(module.comment) + " " if module.comment else ""
-        yield Paragraph(self.inlines(crate, about) + [
-            Inline(f"{counted(len(found), 'definition')}, {counted(lines, 'line')} of "),
-            link_to(module.file), Inline(".")])
+        yield [[Inline(f"{crate}: {name}", False, Target("", "", module.file))],
+               self.inlines(crate, about + counted(len(found), "definition") + ":"), plain(""),
+               plain(str(sum(it.lines() for it in found)))]
         order = {it.ref: place for place, it in enumerate(module.definitions)}
-        rows = []
         for it in sorted(found, key=lambda it: order[it.ref]):
-            rows.append([code(it.ref.word, self.target(it.ref)),
-                         self.inlines(crate, sentence(it.comment)),
-                         plain(source_in(it.comment, module.comment)),
-                         plain(str(it.lines()))])
-        yield Table(["Definition", "What it says", "Source", "Lines"], rows)
+            yield [code(it.ref.word, self.target(it.ref)), self.inlines(crate, sentence(it.comment)),
+                   plain(source_in(it.comment, module.comment)), plain(str(it.lines()))]
 
     def headline_types(self) -> Iterator[Block]:
         refs = sorted({it for it in self.headline if it.is_type()},
