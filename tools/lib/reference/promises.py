@@ -59,13 +59,19 @@ def entries_of(page: Page, heading: Heading, blocks: List[Block]) -> Iterator[Li
         yield [*code(owner, Target(page.name, owner)), *plain(":"), *clauses(page, owner, others)]
 
 
+def together(anchor: str) -> str:
+    """What stands in one entry: a type with its methods, the exports of one handle or struct, a function."""
+    name = anchor.split(".")[0]
+    return "_".join(name.split("_")[:2]) if name.startswith("krbrelay_") else name
+
+
 def page_of(crates: List[Page]) -> Page:
     blocks: List[Block] = [Heading(1, TITLE, ""), Paragraph(plain(INTRODUCTION))]
     for page in crates:
-        entries: Dict[str, List[Inline]] = {}       # of a type with its methods, or of a function
+        entries: Dict[str, List[Inline]] = {}
         for heading, below in parts_of(page):
             for it in entries_of(page, heading, below):
-                before = entries.setdefault(heading.anchor.split(".")[0], [])
+                before = entries.setdefault(together(heading.anchor), [])
                 before += [*(plain(" ") if before else []), *it]
         if entries:
             blocks += [Heading(2, page.title, page.name), Listing(list(entries.values()))]
