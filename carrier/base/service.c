@@ -161,9 +161,11 @@ void service_tell_end(void)
 #ifdef WITH_METRICS
 static void print_head(FILE *page, const struct metric *it)
 {
-    size_t len = strcmp(it->type, "histogram") == 0 ? strlen(it->name) - strlen("_bucket") : strlen(it->name);
+    int is_histogram = strcmp(it->type, "histogram") == 0;
+    int len = (int)(strlen(it->name) - (is_histogram ? strlen("_bucket") : 0));
     /* print_all asks whether all was written. */
-    (void)fprintf(page, "# HELP %.*s %s\n# TYPE %.*s %s\n", (int)len, it->name, it->help, (int)len, it->name, it->type);
+    (void)fprintf(page, "# HELP %.*s %s\n# TYPE %.*s %s\n", len, it->name, it->help, len, it->name,
+                  it->type);
 }
 
 /* Which program it is, as Prometheus's users look for it. */
@@ -183,18 +185,21 @@ static void print_build(FILE *page)
     const uint32_t library = krbrelay_version();
     char name[64];
     write_whole(name, sizeof name, "krbrelay_%s_build_info", service.program);
-    print_head(page, &(const struct metric){ name, "gauge", "1, of a program of this version, over this version of"
-                                             " libkrbrelay, that was built with these", NULL });
+    print_head(page, &(const struct metric){
+        name, "gauge", "1, of a program of this version, over this version of libkrbrelay, that was"
+        " built with these", NULL });
     (void)fprintf(page, "%s{version=\"%d.%d.%d\",library=\"%u.%u.%u\",with=\"sqlite%s\"} 1\n", name,
-                  KRBRELAY_VERSION_MAJOR, KRBRELAY_VERSION_MINOR, KRBRELAY_VERSION_PATCH, library >> 16,
-                  library >> 8 & 0xff, library & 0xff, with); /* as in print_head */
+                  KRBRELAY_VERSION_MAJOR, KRBRELAY_VERSION_MINOR, KRBRELAY_VERSION_PATCH,
+                  library >> 16, library >> 8 & 0xff, library & 0xff,
+                  with); /* as in print_head */
 }
 
 static void print_metric(FILE *page, unsigned metric)
 {
     const struct metric *it = &service.metrics[metric];
     unsigned i;
-    if (it->type != NULL && (metric == 0 || strcmp(it->name, service.metrics[metric - 1].name) != 0))
+    if (it->type != NULL
+        && (metric == 0 || strcmp(it->name, service.metrics[metric - 1].name) != 0))
         print_head(page, it);
     for (i = 0; i < service.part_count; i++) {
         const struct part *part = &service.parts[i];

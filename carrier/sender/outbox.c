@@ -166,13 +166,14 @@ static void join_delays(struct delays *delays, const struct delays *more)
     delays->seconds += more->seconds;
 }
 
-/* The function of SQL note_delay(put), which is true of each row, and counts a text whose insertion is known. The clock may
- * have been set back since: then it took no time. */
+/* The function of SQL note_delay(put), which is true of each row, and counts a text whose insertion
+ * is known. The clock may have been set back since: then it took no time. */
 static void note_delay(sqlite3_context *context, int count, sqlite3_value **values)
 {
     struct outbox *o = sqlite3_user_data(context);
     const sqlite3_int64 put = count == 1 ? sqlite3_value_int64(values[0]) : 0;
-    const sqlite3_int64 now = (sqlite3_int64)(o->clock.seconds * 1000 + o->clock.microseconds / 1000);
+    const uint64_t moment = o->clock.seconds * 1000 + o->clock.microseconds / 1000;
+    const sqlite3_int64 now = (sqlite3_int64)moment;
     if (put > 0)
         add_delay(&o->taken, now > put ? (double)(now - put) / 1e3 : 0);
     sqlite3_result_int(context, 1);
@@ -180,7 +181,8 @@ static void note_delay(sqlite3_context *context, int count, sqlite3_value **valu
 
 static int add_function(struct outbox *o)
 {
-    if (sqlite3_create_function(o->db, "note_delay", 1, SQLITE_UTF8, o, note_delay, NULL, NULL) == SQLITE_OK)
+    if (sqlite3_create_function(o->db, "note_delay", 1, SQLITE_UTF8, o, note_delay, NULL, NULL)
+        == SQLITE_OK)
         return 0;
     log_system("out_of_memory", "outbox");
     return -1;
@@ -217,7 +219,8 @@ int outbox_open(struct outbox *o, const char *path)
         return -1;
     }
     o->db = open_database(path, tables);
-    if (o->db == NULL || find_file(path, &o->device, &o->inode) != 0 || complete(o) != 0 || add_function(o) != 0
+    if (o->db == NULL || find_file(path, &o->device, &o->inode) != 0 || complete(o) != 0
+        || add_function(o) != 0
         || prepare_all(o->db, o->statements, sql, OUTBOX_STATEMENTS) != 0
         || prepare_rows(o->db, &o->rows[ADD_FRAME], rows_sql[ADD_FRAME]) != 0
         || prepare_rows(o->db, &o->rows[ADD_SEALED], rows_sql[ADD_SEALED]) != 0)
@@ -413,8 +416,8 @@ int outbox_add_frame(struct outbox *o, const char *session, uint64_t number, con
     return add_row(add);
 }
 
-int outbox_add_sealed(struct outbox *o, const struct waiting_text *text, const char *session, uint64_t number,
-                      unsigned part)
+int outbox_add_sealed(struct outbox *o, const struct waiting_text *text, const char *session,
+                      uint64_t number, unsigned part)
 {
     struct rows *add = &o->rows[ADD_SEALED];
     int at = next_row(add);

@@ -199,10 +199,11 @@ enum seal_answer seal_rest(struct sealing *s, struct sending *it)
 }
 
 /* The number that this text gets, as this part of its record. */
-static enum seal_answer note_sealed(struct sealing *s, const struct sending *it, const struct waiting_text *text,
-                                    unsigned part)
+static enum seal_answer note_sealed(struct sealing *s, const struct sending *it,
+                                    const struct waiting_text *text, unsigned part)
 {
-    return outbox_add_sealed(s->outbox, text, it->of.name, it->sealed, part) == 0 ? SEAL_OK : SEAL_FAULT;
+    return outbox_add_sealed(s->outbox, text, it->of.name, it->sealed, part) == 0 ? SEAL_OK
+                                                                                  : SEAL_FAULT;
 }
 
 enum seal_answer seal_close(struct sealing *s, struct sending *it, sqlite3_int64 id)
@@ -213,7 +214,8 @@ enum seal_answer seal_close(struct sealing *s, struct sending *it, sqlite3_int64
 }
 
 /* The close that an application put in. */
-static enum seal_answer take_close(struct sealing *s, struct sending *it, const struct waiting_text *text)
+static enum seal_answer take_close(struct sealing *s, struct sending *it,
+                                   const struct waiting_text *text)
 {
     enum seal_answer answer = seal_rest(s, it);
     if (answer == SEAL_OK)

@@ -10,10 +10,14 @@
 #define NAME "krbrelay_sender_"
 #define SILENCE 1.0 /* seconds: service.h waits for ten more before it says so */
 
-#define DELAYS_HELP "Seconds from the insertion of a text until its row was deleted, since a receipt said that it took effect"
-#define DELAYS_UP_TO(bound) { NAME "delay_seconds_bucket", "histogram", DELAYS_HELP, "le=\"" #bound "\"" },
+#define DELAYS_HELP \
+    "Seconds from the insertion of a text until its row was deleted, since a receipt said that it" \
+    " took effect"
+#define DELAYS_UP_TO(bound) \
+    { NAME "delay_seconds_bucket", "histogram", DELAYS_HELP, "le=\"" #bound "\"" },
 
-/* In the order of the values in sender_show: those of delays, and the last, which is the shards', are filled in. */
+/* In the order of the values in sender_show: those of delays, and the last, which is the shards',
+ * are filled in. */
 static const struct metric metrics[] = {
     { NAME "sealed_frames_total", "counter", "Frames that were sealed", NULL },
     { NAME "published_frames_total", "counter", "Frames that were published", NULL },
@@ -39,7 +43,10 @@ static const struct metric metrics[] = {
     { NAME "waiting_frames", "gauge", "Frames of a shard that aren't carried", NULL },
 };
 
-enum { METRICS = sizeof metrics / sizeof *metrics, DELAYS_AT = METRICS - 1 - (DELAY_BOUNDS_COUNT + 3) };
+enum {
+    METRICS = sizeof metrics / sizeof *metrics,
+    DELAYS_AT = METRICS - 1 - (DELAY_BOUNDS_COUNT + 3)
+};
 
 int sender_begin_showing(void)
 {
