@@ -286,17 +286,28 @@ def test_whole():
     every = promises.all_pages(project)
     again = promises.all_pages(sources.read_project())
     assert every == again, "the same pages each time"
-    place = lambda page, anchor: pages.source_file(project, pages.Target(page, anchor))
-    assert (place("krb_relay", "relay") == "crates/krb_relay/src/running.rt"
-            and place("krb_seal", "Opener.unseal.opens") == "crates/krb_seal/src/opener.rt"
-            and place("krb_peers", "specs.Planned.IsPaired") == "crates/krb_peers/specs/Planned.antt"
-            and place("krb_lane", "") == "crates/krb_lane/src/lib.rt"), "where an item stands"
+
+    def stands(page, anchor, file, line):
+        """Whether a link leads to the line that begins so, which is the only one of its file."""
+        place, _, number = pages.source_place(project, pages.Target(page, anchor)).partition("#L")
+        found = [at for at, it in enumerate(sources.read(file).split("\n"), 1) if it.strip().startswith(line)]
+        return place == file and [int(number)] == found
+
+    assert (stands("krb_relay", "relay", "crates/krb_relay/src/running.rt", "pub fn relay<")
+            and stands("krb_seal", "Opener", "crates/krb_seal/src/opener.rt", "pub struct Opener {")
+            and stands("krb_peers", "frames_laws.headline", "crates/krb_peers/src/frames.rt",
+                       "ensures headline { FramesHaveHeadline }")
+            and stands("krb_record", "BatchError.Display.output", "crates/krb_record/src/batch.rt", "ghost output")
+            and stands("krb_peers", "specs.Planned.IsPaired", "crates/krb_peers/specs/Planned.antt", "pub record IsPaired")
+            and pages.source_place(project, pages.Target("krb_lane", "")) == "crates/krb_lane/src/lib.rt"), "where an item stands"
+    assert pages.lines_of(project, every[3:])["crates/krb_peers/specs/Planned.antt", "IsPaired"].isdigit()
     anchors = {it.name: set(it.anchors()) for it in every}
     assert all(len(list(it.anchors())) == len(anchors[it.name]) for it in every), "no anchor twice"
     assert {"relay", "relay.whole", "relay.stopped"} <= anchors["krb_relay"], "clauses of relay"
     assert {"specs.Planned.Headline", "specs.Planned.IsPaired"} <= anchors["krb_peers"], "what is shown of a lane"
-    assert ({"krb_peers.Claims", "krb_peers.Attempt", "krb_aes.Cipher"} <= anchors["headline"]
-            and "krb_peers.Planned" not in anchors["headline"]), "what the headline reaches"
+    modules = {row[0][0].text for block in every[1].blocks if isinstance(block, pages.Table) for row in block.rows}
+    assert ({"krb_peers: Claims", "krb_peers: Attempt", "krb_aes: Cipher"} <= modules
+            and "krb_peers: Planned" not in modules), "what the headline reaches"
     made = pages_html.files_of(every)
     files = {name: Reader(text) for name, text in made.items() if name.endswith(".html")}
     assert all(it.right and not it.open for it in files.values()), "whole HTML"
@@ -425,6 +436,12 @@ def test_checks():
     assert (fault(f"`{source}`", f"../{source}") is None and fault("`krb_peers`", f"../{source}") is None
             and fault("`krb_window`", f"../{source}") is not None
             and fault("`specs/Plan.antt`", f"../{source}") is not None), "the source itself"
+    at = next(number for number, line in enumerate(sources.read(source).split("\n"), 1) if "IsPaired" in line)
+    assert (fault("`IsPaired`", f"../{source}#L{at}") is None and fault("`IsPaired`", f"../{source}#L{at + 1}") is not None
+            and fault("`IsPaired`", f"../{source}#L99999") is not None), "a line that has the name, and others"
+    link, lines = f"[`specs.Planned.IsPaired`](../{source}#L1) [it](../{source})", {(source, "specs.Planned.IsPaired"): "12"}
+    assert made.lined("docs/PROVED.md", link, lines) == link.replace("L1", "L12"), "a line that moved is written"
+    assert len(list(made.other_lines("docs/PROVED.md", link, lines))) == 1, "and told"
     assert fault("it", "reference/krb_lost.md") is not None, "a page that isn't there"
     texts["docs/PROVED.md"] = "```\n[x](lost.md)\n```\n[y](lost.md)"
     assert len(list(made.dead_links("docs/PROVED.md", texts))) == 1, "code isn't read"

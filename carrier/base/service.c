@@ -6,6 +6,7 @@
 #include "text.h"
 #include "words.h"
 
+#include <krbrelay.h>
 #include <math.h>
 #include <stdio.h>
 #include <stdlib.h>
@@ -33,15 +34,17 @@ struct part {
 
 static struct {
     pthread_mutex_t lock;
+    const char *program;
     const struct metric *metrics, *sessions;
     unsigned count, part_count; /* parts: up to the last that was expected */
     struct part *parts;
     void *server;
 } service = { .lock = PTHREAD_MUTEX_INITIALIZER };
 
-int service_begin(const struct metric *metrics, unsigned count, const struct metric *sessions,
-                  unsigned parts)
+int service_begin(const char *program, const struct metric *metrics, unsigned count,
+                  const struct metric *sessions, unsigned parts)
 {
+    service.program = program;
     service.metrics = metrics;
     service.count = count < SERVICE_METRICS ? count : SERVICE_METRICS;
     service.sessions = sessions;
@@ -158,15 +161,45 @@ void service_tell_end(void)
 #ifdef WITH_METRICS
 static void print_head(FILE *page, const struct metric *it)
 {
+    int is_histogram = strcmp(it->type, "histogram") == 0;
+    int len = (int)(strlen(it->name) - (is_histogram ? strlen("_bucket") : 0));
     /* print_all asks whether all was written. */
-    (void)fprintf(page, "# HELP %s %s\n# TYPE %s %s\n", it->name, it->help, it->name, it->type);
+    (void)fprintf(page, "# HELP %.*s %s\n# TYPE %.*s %s\n", len, it->name, it->help, len, it->name,
+                  it->type);
+}
+
+/* Which program it is, as Prometheus's users look for it. */
+static void print_build(FILE *page)
+{
+    static const char with[] = ""
+#ifdef WITH_NATS
+        " nats"
+#endif
+#ifdef WITH_POSTGRESQL
+        " postgresql"
+#endif
+#ifdef WITH_SYSTEMD
+        " systemd"
+#endif
+        ;
+    const uint32_t library = krbrelay_version();
+    char name[64];
+    write_whole(name, sizeof name, "krbrelay_%s_build_info", service.program);
+    print_head(page, &(const struct metric){
+        name, "gauge", "1, of a program of this version, over this version of libkrbrelay, that was"
+        " built with these", NULL });
+    (void)fprintf(page, "%s{version=\"%d.%d.%d\",library=\"%u.%u.%u\",with=\"sqlite%s\"} 1\n", name,
+                  KRBRELAY_VERSION_MAJOR, KRBRELAY_VERSION_MINOR, KRBRELAY_VERSION_PATCH,
+                  library >> 16, library >> 8 & 0xff, library & 0xff,
+                  with); /* as in print_head */
 }
 
 static void print_metric(FILE *page, unsigned metric)
 {
     const struct metric *it = &service.metrics[metric];
     unsigned i;
-    if (metric == 0 || strcmp(it->name, service.metrics[metric - 1].name) != 0)
+    if (it->type != NULL
+        && (metric == 0 || strcmp(it->name, service.metrics[metric - 1].name) != 0))
         print_head(page, it);
     for (i = 0; i < service.part_count; i++) {
         const struct part *part = &service.parts[i];
@@ -200,6 +233,7 @@ static char *print_all(size_t *size)
     if (page == NULL)
         return NULL;
     take_lock(&service.lock);
+    print_build(page);
     for (i = 0; i < service.count; i++)
         print_metric(page, i);
     if (service.sessions != NULL)

@@ -11,15 +11,17 @@
 #include <stddef.h>
 
 /* A kind of number: the same name may stand several times, one after the other, with other labels.
- */
+ * The buckets of a histogram, NAME_bucket, are of this type; after them come NAME_sum and
+ * NAME_count, of the type NULL. */
 struct metric { const char *name, *type, *help, *label; };
 
 enum { SERVICE_METRICS = 64, SERVICE_NAMES = 32 };
 
-/* So many parts at most, of which none is expected. `sessions`, if it isn't NULL, is the kind of
- * number that is 1 for each session that a part names. 0, or -1 if there is no memory. */
-int service_begin(const struct metric *metrics, unsigned count, const struct metric *sessions,
-                  unsigned parts);
+/* Of the program krbrelay-PROGRAM. So many parts at most, of which none is expected. `sessions`, if
+ * it isn't NULL, is the kind of number that is 1 for each session that a part names. 0, or -1 if
+ * there is no memory. */
+int service_begin(const char *program, const struct metric *metrics, unsigned count,
+                  const struct metric *sessions, unsigned parts);
 
 /* Ends the program with status 2 and a message unless --metrics is ADDRESS:PORT, or NULL. */
 void service_check_option(const char *program, const char *where);

@@ -193,7 +193,7 @@ int serving_begin(const struct shard_options *options, struct sessions *sessions
     serving.come_and_go = come_and_go;
     serving.sessions = sessions_share(sessions);
     serving.threads = calloc(CARRIER_SHARDS, sizeof *serving.threads);
-    if (serving.threads != NULL && service_begin(shard_metrics, shard_metrics_count,
+    if (serving.threads != NULL && service_begin("receiver", shard_metrics, shard_metrics_count,
                                                  &shard_stands_metric, CARRIER_SHARDS + 1) == 0)
         return 0;
     log_system("out_of_memory", "receiver");

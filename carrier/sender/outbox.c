@@ -1,4 +1,5 @@
 #include "outbox.h"
+#include "clock.h"
 #include "log.h"
 #include "text.h"
 
@@ -26,7 +27,8 @@ static const char tables[] =
     "CREATE TABLE IF NOT EXISTS session (name TEXT PRIMARY KEY, next INTEGER NOT NULL,"
     " carried INTEGER NOT NULL, at INTEGER NOT NULL) WITHOUT ROWID;"
     "CREATE TABLE IF NOT EXISTS text (id INTEGER PRIMARY KEY AUTOINCREMENT, session TEXT NOT NULL,"
-    " body BLOB, since INTEGER NOT NULL DEFAULT (CAST(strftime('%s') AS INTEGER)));"
+    " body BLOB, since INTEGER NOT NULL DEFAULT (CAST(strftime('%s') AS INTEGER)),"
+    " millisecond INTEGER NOT NULL DEFAULT (CAST(substr(strftime('%f'), 4) AS INTEGER)));"
     "CREATE TABLE IF NOT EXISTS closed (session TEXT PRIMARY KEY) WITHOUT ROWID;"
     "CREATE TRIGGER IF NOT EXISTS nothing_after_the_close BEFORE INSERT ON text"
     " WHEN EXISTS (SELECT 1 FROM closed WHERE session = NEW.session)"
@@ -44,7 +46,7 @@ static const char tables[] =
     "CREATE TABLE IF NOT EXISTS frame (session TEXT NOT NULL, number INTEGER NOT NULL,"
     " frame BLOB NOT NULL, PRIMARY KEY (session, number));"
     "CREATE TABLE IF NOT EXISTS sealed (text INTEGER PRIMARY KEY, session TEXT NOT NULL,"
-    " number INTEGER NOT NULL, part INTEGER NOT NULL);"
+    " number INTEGER NOT NULL, part INTEGER NOT NULL, put INTEGER NOT NULL DEFAULT 0);"
     "CREATE INDEX IF NOT EXISTS sealed_number ON sealed (session, number);"
     "CREATE TABLE IF NOT EXISTS opened (name TEXT PRIMARY KEY, stream TEXT NOT NULL,"
     " turn INTEGER NOT NULL, before TEXT NOT NULL, shard INTEGER NOT NULL, since INTEGER NOT NULL,"
@@ -67,17 +69,20 @@ static const char *const columns[][2] = {
     { "session", "stop_since INTEGER NOT NULL DEFAULT 0" },
     { "frame", "history BLOB NOT NULL DEFAULT x''" },
     { "text", "since INTEGER NOT NULL DEFAULT 0" },
+    { "text", "millisecond INTEGER NOT NULL DEFAULT 0" },
+    { "sealed", "put INTEGER NOT NULL DEFAULT 0" },
     { "owner", "renewed INTEGER NOT NULL DEFAULT 0" },
 };
 
+/* A text, with the millisecond since 1970 in which it was put in, 0 if that isn't known. */
+#define A_TEXT "SELECT id, session, body, iif(since = 0, 0, since * 1000 + millisecond) FROM text"
 #define OPENED "name, stream, before, etype, turn, since, shard, closed, kvno, wrapping, key"
 
 static const char *const sql[OUTBOX_STATEMENTS] = {
     [LOAD_SESSION] = ("SELECT next, carried, at, incarnation, shard, iif(done < 0, carried, done),"
                       " history, stands FROM session WHERE name = ?"),
-    [SELECT_TEXTS] = "SELECT id, session, body FROM text WHERE id > ? ORDER BY id LIMIT ?",
-    [SELECT_WAITING] = ("SELECT id, session, body FROM text WHERE session = ? AND id <= ? ORDER BY id"
-                        " LIMIT ?"),
+    [SELECT_TEXTS] = A_TEXT " WHERE id > ? ORDER BY id LIMIT ?",
+    [SELECT_WAITING] = A_TEXT " WHERE session = ? AND id <= ? ORDER BY id LIMIT ?",
     [HAS_TEXT] = "SELECT 1 FROM text WHERE id > ? LIMIT 1",
     [DROP_TEXTS] = "DELETE FROM text WHERE id >= ? AND id <= ?",
     [SELECT_HISTORY] = "SELECT history FROM frame WHERE session = ? AND number = ?",
@@ -86,7 +91,7 @@ static const char *const sql[OUTBOX_STATEMENTS] = {
     [SELECT_FRAMES] = ("SELECT number, frame FROM frame WHERE session = ? AND number >= ?"
                        " ORDER BY number LIMIT ?"),
     [DROP_FRAMES] = "DELETE FROM frame WHERE session = ? AND number < ?",
-    [DROP_SEALED] = "DELETE FROM sealed WHERE session = ? AND number < ?",
+    [DROP_SEALED] = "DELETE FROM sealed WHERE session = ? AND number < ? AND note_delay(put)",
     [SET_NEXT] = ("INSERT INTO session (name, next, carried, at, shard, done)"
                   " SELECT ?2, ?1, ?5, 0, ?4, ?5"
                   " WHERE ?3 = ?6 OR EXISTS (SELECT 1 FROM session WHERE name = ?2)"
@@ -128,7 +133,7 @@ static const char *const sql[OUTBOX_STATEMENTS] = {
 
 static const char *const rows_sql[OUTBOX_ROWS] = {
     [ADD_FRAME] = "INSERT INTO frame (session, number, frame, history) VALUES (?, ?, ?, ?)",
-    [ADD_SEALED] = "INSERT INTO sealed (text, session, number, part) VALUES (?, ?, ?, ?)",
+    [ADD_SEALED] = "INSERT INTO sealed (text, session, number, part, put) VALUES (?, ?, ?, ?, ?)",
 };
 
 /* The number that a question has for its answer, 0 if there is none; or -1 after a fault. */
@@ -140,6 +145,50 @@ static int read_number(struct outbox *o, enum outbox_statement question, uint64_
     end_rows(select);
     return row >= 0 ? 0 : -1;
 }
+
+/* ---- How long texts took */
+
+static void add_delay(struct delays *delays, double seconds)
+{
+    static const double bounds[DELAY_BOUNDS_COUNT] = { DELAY_BOUNDS(AND_COMMA) };
+    unsigned i = 0;
+    while (i < DELAY_BOUNDS_COUNT && seconds > bounds[i])
+        i++;
+    delays->counts[i]++;
+    delays->seconds += seconds;
+}
+
+static void join_delays(struct delays *delays, const struct delays *more)
+{
+    unsigned i;
+    for (i = 0; i <= DELAY_BOUNDS_COUNT; i++)
+        delays->counts[i] += more->counts[i];
+    delays->seconds += more->seconds;
+}
+
+/* The function of SQL note_delay(put), which is true of each row, and counts a text whose insertion
+ * is known. The clock may have been set back since: then it took no time. */
+static void note_delay(sqlite3_context *context, int count, sqlite3_value **values)
+{
+    struct outbox *o = sqlite3_user_data(context);
+    const sqlite3_int64 put = count == 1 ? sqlite3_value_int64(values[0]) : 0;
+    const uint64_t moment = o->clock.seconds * 1000 + o->clock.microseconds / 1000;
+    const sqlite3_int64 now = (sqlite3_int64)moment;
+    if (put > 0)
+        add_delay(&o->taken, now > put ? (double)(now - put) / 1e3 : 0);
+    sqlite3_result_int(context, 1);
+}
+
+static int add_function(struct outbox *o)
+{
+    if (sqlite3_create_function(o->db, "note_delay", 1, SQLITE_UTF8, o, note_delay, NULL, NULL)
+        == SQLITE_OK)
+        return 0;
+    log_system("out_of_memory", "outbox");
+    return -1;
+}
+
+/* ---- */
 
 static int complete(struct outbox *o)
 {
@@ -171,6 +220,7 @@ int outbox_open(struct outbox *o, const char *path)
     }
     o->db = open_database(path, tables);
     if (o->db == NULL || find_file(path, &o->device, &o->inode) != 0 || complete(o) != 0
+        || add_function(o) != 0
         || prepare_all(o->db, o->statements, sql, OUTBOX_STATEMENTS) != 0
         || prepare_rows(o->db, &o->rows[ADD_FRAME], rows_sql[ADD_FRAME]) != 0
         || prepare_rows(o->db, &o->rows[ADD_SEALED], rows_sql[ADD_SEALED]) != 0)
@@ -332,6 +382,7 @@ int outbox_next_text(struct statement *select, struct waiting_text *text)
     text->session = (const char *)sqlite3_column_text(select->at, 1);
     text->body = sqlite3_column_blob(select->at, 2);
     text->len = (size_t)sqlite3_column_bytes(select->at, 2);
+    text->put = sqlite3_column_int64(select->at, 3);
     if (text->body == NULL && sqlite3_column_type(select->at, 2) != SQLITE_NULL)
         text->body = (const uint8_t *)""; /* a text of no bytes isn't the close */
     return text->session != NULL ? 1 : -1;
@@ -365,15 +416,16 @@ int outbox_add_frame(struct outbox *o, const char *session, uint64_t number, con
     return add_row(add);
 }
 
-int outbox_add_sealed(struct outbox *o, sqlite3_int64 text, const char *session, uint64_t number,
-                      unsigned part)
+int outbox_add_sealed(struct outbox *o, const struct waiting_text *text, const char *session,
+                      uint64_t number, unsigned part)
 {
     struct rows *add = &o->rows[ADD_SEALED];
     int at = next_row(add);
-    bind_number(&add->all, at + 1, text);
+    bind_number(&add->all, at + 1, text->id);
     bind_text(&add->all, at + 2, session);
     bind_number(&add->all, at + 3, (sqlite3_int64)number);
     bind_number(&add->all, at + 4, part);
+    bind_number(&add->all, at + 5, text->put);
     return add_row(add);
 }
 
@@ -419,6 +471,7 @@ int outbox_set_carried(struct outbox *o, const char *session, const struct outbo
 
 int outbox_drop_done(struct outbox *o, const char *session, uint64_t done)
 {
+    o->clock = read_clock();
     return drop_below(&o->statements[DROP_FRAMES], session, done) == 0
                    && drop_below(&o->statements[DROP_SEALED], session, done) == 0
                ? 0 : -1;
@@ -474,13 +527,18 @@ int outbox_drop_stopped(struct outbox *o)
 
 int outbox_commit(struct outbox *o)
 {
-    return outbox_insert(o) == 0 ? run(o->db, "COMMIT") : -1;
+    if (outbox_insert(o) != 0 || run(o->db, "COMMIT") != 0)
+        return -1;
+    join_delays(&o->delays, &o->taken);
+    o->taken = (struct delays){ .seconds = 0 };
+    return 0;
 }
 
 void outbox_rollback(struct outbox *o)
 {
     forget_rows(&o->rows[ADD_FRAME]);
     forget_rows(&o->rows[ADD_SEALED]);
+    o->taken = (struct delays){ .seconds = 0 };
     roll_back(o->db);
 }
 

@@ -46,10 +46,20 @@ enum outbox_rows { ADD_FRAME, ADD_SEALED, OUTBOX_ROWS };
 
 enum { OUTBOX_PATH = 4096 };
 
+/* How many texts took at most so many seconds, or longer than the last bound, from their insertion
+ * until they were dropped, since a receipt said that they took effect. */
+#define DELAY_BOUNDS(X) \
+    X(0.01) X(0.03) X(0.1) X(0.3) X(1) X(3) X(10) X(30) X(100) X(300) X(1000) X(3600) X(86400)
+#define AND_COMMA(bound) bound,
+enum { DELAY_BOUNDS_COUNT = 13 };
+struct delays { uint64_t counts[DELAY_BOUNDS_COUNT + 1]; double seconds; };
+
 struct outbox {
     sqlite3 *db;
     struct statement statements[OUTBOX_STATEMENTS];
     struct rows rows[OUTBOX_ROWS];
+    struct delays delays, taken; /* of texts that were dropped; those of this transaction, */
+    struct krbrelay_moment clock; /* before it is committed, and when that was */
     uint64_t turn;      /* those who opened this outbox are counted: this is the turn'th */
     char path[OUTBOX_PATH]; /* where it is, and which file is there */
     uint64_t device, inode;
@@ -57,8 +67,14 @@ struct outbox {
 
 enum outbox_answer { OUTBOX_OK = 0, OUTBOX_AGAIN = 1, OUTBOX_FAULT = -1, OUTBOX_TAKEN = -2 };
 
-/* What waits: body is NULL for the close. Valid until the next call. */
-struct waiting_text { sqlite3_int64 id; const char *session; const uint8_t *body; size_t len; };
+/* What waits: body is NULL for the close. `put` is when it was put in, in milliseconds since 1970, 0
+ * if that isn't known. Valid until the next call. */
+struct waiting_text {
+    sqlite3_int64 id, put;
+    const char *session;
+    const uint8_t *body;
+    size_t len;
+};
 
 /* How far a session is, as krbrelay_sending_load takes it: `at` is an offset of the list of this shard with this
  * incarnation (carrier.h); a shard of -1, an incarnation of 0: it isn't known. All below `done` took effect, as
@@ -131,7 +147,7 @@ int outbox_add_frame(struct outbox *outbox, const char *session, uint64_t number
                      const uint8_t *frame, size_t len, const struct history *history);
 
 /* Stores that a text is sealed under this number, as this part of the record. */
-int outbox_add_sealed(struct outbox *outbox, sqlite3_int64 text, const char *session,
+int outbox_add_sealed(struct outbox *outbox, const struct waiting_text *text, const char *session,
                       uint64_t number, unsigned part);
 
 /* Inserts what was added. */
@@ -142,7 +158,8 @@ int outbox_insert(struct outbox *outbox);
 int outbox_set_next(struct outbox *outbox, const struct session *session, uint64_t from,
                     uint64_t to);
 
-/* Stores how far a session is carried and done; deletes the frames that are done. `next` stays. */
+/* Stores how far a session is carried and done; deletes the frames that are done, and once that is
+ * committed `delays` has how long their texts took. `next` stays. */
 int outbox_set_carried(struct outbox *outbox, const char *session,
                        const struct outbox_progress *it);
 int outbox_drop_done(struct outbox *outbox, const char *session, uint64_t done);

@@ -199,11 +199,11 @@ enum seal_answer seal_rest(struct sealing *s, struct sending *it)
 }
 
 /* The number that this text gets, as this part of its record. */
-static enum seal_answer note_sealed(struct sealing *s, const struct sending *it, sqlite3_int64 id,
-                                    unsigned part)
+static enum seal_answer note_sealed(struct sealing *s, const struct sending *it,
+                                    const struct waiting_text *text, unsigned part)
 {
-    return outbox_add_sealed(s->outbox, id, it->of.name, it->sealed, part) == 0 ? SEAL_OK
-                                                                                : SEAL_FAULT;
+    return outbox_add_sealed(s->outbox, text, it->of.name, it->sealed, part) == 0 ? SEAL_OK
+                                                                                  : SEAL_FAULT;
 }
 
 enum seal_answer seal_close(struct sealing *s, struct sending *it, sqlite3_int64 id)
@@ -214,12 +214,13 @@ enum seal_answer seal_close(struct sealing *s, struct sending *it, sqlite3_int64
 }
 
 /* The close that an application put in. */
-static enum seal_answer take_close(struct sealing *s, struct sending *it, sqlite3_int64 id)
+static enum seal_answer take_close(struct sealing *s, struct sending *it,
+                                   const struct waiting_text *text)
 {
     enum seal_answer answer = seal_rest(s, it);
     if (answer == SEAL_OK)
-        answer = note_sealed(s, it, id, 0);
-    return answer == SEAL_OK ? seal_close(s, it, id) : answer;
+        answer = note_sealed(s, it, text, 0);
+    return answer == SEAL_OK ? seal_close(s, it, text->id) : answer;
 }
 
 enum seal_answer seal_text(struct sealing *s, struct sending *it, const struct waiting_text *text)
@@ -227,7 +228,7 @@ enum seal_answer seal_text(struct sealing *s, struct sending *it, const struct w
     char reason[64];
     enum seal_answer answer = SEAL_OK;
     if (text->body == NULL)
-        return take_close(s, it, text->id);
+        return take_close(s, it, text);
     if (text->len > TEXT_BYTES) {
         write_cut(reason, sizeof reason, "a text has %zu bytes: the most are %d", text->len,
                   TEXT_BYTES);
@@ -235,7 +236,7 @@ enum seal_answer seal_text(struct sealing *s, struct sending *it, const struct w
     }
     if (s->batch == 1) {
         it->begin = text->id;
-        answer = note_sealed(s, it, text->id, 0);
+        answer = note_sealed(s, it, text, 0);
         return answer == SEAL_OK ? add_record(s, it, TEXT, text->body, text->len) : answer;
     }
     if (it->texts > 0 && it->size + text->len > BATCH_BYTES)
@@ -247,7 +248,7 @@ enum seal_answer seal_text(struct sealing *s, struct sending *it, const struct w
         return SEAL_FAULT;
     if (it->texts == 0)
         it->begin = text->id;
-    answer = note_sealed(s, it, text->id, it->texts++);
+    answer = note_sealed(s, it, text, it->texts++);
     return answer == SEAL_OK && it->texts >= s->batch ? seal_rest(s, it) : answer;
 }
 

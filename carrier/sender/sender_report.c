@@ -10,7 +10,14 @@
 #define NAME "krbrelay_sender_"
 #define SILENCE 1.0 /* seconds: service.h waits for ten more before it says so */
 
-/* In the order of the values in sender_show; the last is the shards'. */
+#define DELAYS_HELP \
+    "Seconds from the insertion of a text until its row was deleted, since a receipt said that it" \
+    " took effect"
+#define DELAYS_UP_TO(bound) \
+    { NAME "delay_seconds_bucket", "histogram", DELAYS_HELP, "le=\"" #bound "\"" },
+
+/* In the order of the values in sender_show: those of delays, and the last, which is the shards',
+ * are filled in. */
 static const struct metric metrics[] = {
     { NAME "sealed_frames_total", "counter", "Frames that were sealed", NULL },
     { NAME "published_frames_total", "counter", "Frames that were published", NULL },
@@ -29,14 +36,21 @@ static const struct metric metrics[] = {
     { NAME "stopped_sessions", "gauge", "Sessions that are stopped", NULL },
     { NAME "silent_seconds", "gauge", "Since a frame was carried, if any waits or the carrier is away",
       NULL },
+    DELAY_BOUNDS(DELAYS_UP_TO)
+    { NAME "delay_seconds_bucket", "histogram", DELAYS_HELP, "le=\"+Inf\"" },
+    { NAME "delay_seconds_sum", NULL, NULL, NULL },
+    { NAME "delay_seconds_count", NULL, NULL, NULL },
     { NAME "waiting_frames", "gauge", "Frames of a shard that aren't carried", NULL },
 };
 
-enum { METRICS = sizeof metrics / sizeof *metrics };
+enum {
+    METRICS = sizeof metrics / sizeof *metrics,
+    DELAYS_AT = METRICS - 1 - (DELAY_BOUNDS_COUNT + 3)
+};
 
 int sender_begin_showing(void)
 {
-    return service_begin(metrics, METRICS, NULL, 1 + CARRIER_SHARDS);
+    return service_begin("sender", metrics, METRICS, NULL, 1 + CARRIER_SHARDS);
 }
 
 static void show_lane(const struct lane *lane, unsigned part)
@@ -68,17 +82,32 @@ static double counted(struct sender *s, int (*count)(struct outbox *, uint64_t *
     return count(&s->outbox, &found) == 0 ? (double)found : NAN;
 }
 
+/* Each bucket has those of the ones before it too; after the last come the sum and the count. */
+static void show_delays(const struct delays *delays, double *values)
+{
+    uint64_t all = 0;
+    unsigned i;
+    for (i = 0; i <= DELAY_BOUNDS_COUNT; i++) {
+        all += delays->counts[i];
+        *values++ = (double)all;
+    }
+    *values++ = delays->seconds;
+    *values = (double)all;
+}
+
 void sender_show(struct sender *s)
 {
     double silent = (double)(nanoseconds() - s->rose) / 1e9;
-    const double values[METRICS] = {
+    double values[METRICS] = {
         (double)s->sealing.frames, (double)s->published, (double)s->again,
         (double)s->sealing.nanoseconds / 1e9, (double)s->storing / 1e9, (double)s->carrying / 1e9,
         counted(s, outbox_count_texts), (double)s->options.most_waiting, age_of_oldest(s), (double)s->receipts,
         (double)s->unreceipted, (double)s->held, (double)s->standing,
-        counted(s, outbox_count_stopped), silent, NAN,
+        counted(s, outbox_count_stopped), silent,
     };
     unsigned i;
+    show_delays(&s->outbox.delays, values + DELAYS_AT);
+    values[METRICS - 1] = NAN;
     service_alive(0, silent < SILENCE, "", values);
     for (i = 0; i < s->lane_count; i++)
         show_lane(&s->lanes[i], 1 + i);

@@ -100,7 +100,7 @@ static enum seal_answer take_new(struct sender *s)
     struct statement *select = outbox_select_texts(&s->outbox, s->seen, LOOKED);
     struct sending *it;
     struct runs runs = { .count = 0 };
-    struct waiting_text text = { 0, NULL, NULL, 0 };
+    struct waiting_text text = { .id = 0 };
     enum seal_answer answer = SEAL_OK;
     sqlite3_int64 last = s->seen;
     int row = 0, is_taken = 0;
@@ -127,7 +127,7 @@ static enum seal_answer take_waiting(struct sender *s, struct sending **it, size
     const char *name = (*it)->stream != NULL ? (*it)->stream->name : (*it)->of.name;
     struct statement *select = outbox_select_waiting(&s->outbox, name, s->seen, LOOKED - *looked);
     struct runs runs = { .count = 0 };
-    struct waiting_text text = { 0, NULL, NULL, 0 };
+    struct waiting_text text = { .id = 0 };
     enum seal_answer answer = SEAL_OK;
     sqlite3_int64 last = -1;
     int row = 0, is_taken = 1;

@@ -65,7 +65,8 @@ void __wrap_log_report(const char *event, const struct field *fields)
 
 /* ---- service.h */
 
-int service_begin(const struct metric *metrics, unsigned count, const struct metric *sessions, unsigned parts)
+int service_begin(const char *program, const struct metric *metrics, unsigned count,
+                  const struct metric *sessions, unsigned parts)
 {
     unsigned i;
     for (i = 0; i < count && is_sender(running); i++) {

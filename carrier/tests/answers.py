@@ -16,7 +16,7 @@ NOTHING = {
     "_exit", "abort", "tdestroy", "twalk", "va_start", "va_end", "freeaddrinfo", "umask",
     "krbrelay_sealer_free", "krbrelay_opener_free", "krbrelay_receiver_free", "krbrelay_lane_free",
     "krbrelay_pause_begin", "krbrelay_pause_grow", "krbrelay_receiving_load", "krbrelay_reading_load",
-    "MHD_stop_daemon", "MHD_destroy_response",
+    "MHD_stop_daemon", "MHD_destroy_response", "sqlite3_result_int",
     "PQclear", "PQfinish", "PQconninfoFree", "PQsetNoticeProcessor",
     "natsMsg_Destroy", "natsSubscription_Destroy", "natsInbox_Destroy", "jsCtx_Destroy",
     "natsConnection_Destroy", "natsOptions_Destroy", "jsStreamInfo_Destroy",

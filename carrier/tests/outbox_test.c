@@ -367,7 +367,7 @@ static void test_bound(struct outbox *outbox)
     run_text(outbox, "DELETE FROM text WHERE id = (SELECT min(id) FROM text) + 1");
     check(insertion(outbox, "'text'")[0] == 0, "once one is sealed, one more is taken");
     check_full(outbox, "and no second one");
-    run_text(outbox, "INSERT INTO sealed SELECT id, session, 1, 0 FROM text; DELETE FROM text");
+    run_text(outbox, "INSERT INTO sealed SELECT id, session, 1, 0, 0 FROM text; DELETE FROM text");
     check_full(outbox, "texts that wait for a receipt count");
     run_text(outbox, "DELETE FROM sealed WHERE text = (SELECT max(text) FROM sealed)");
     check(insertion(outbox, "'text'")[0] == 0, "a receipt makes room");
@@ -376,6 +376,35 @@ static void test_bound(struct outbox *outbox)
     check(outbox_bound(outbox, 0) == 0, "the bound is taken away");
     run_text(outbox, "DELETE FROM closed");
     check(insertion(outbox, "'text'")[0] == 0, "then any number may wait");
+}
+
+/* How long texts took is counted once the transaction that drops them is committed, in the bucket of so many seconds; of one
+ * of an older version, which doesn't say when it was put in, it isn't. */
+static void test_delays(struct outbox *outbox)
+{
+    struct session of = session_of("delays", KRBRELAY_SAFE, 1);
+    struct sending sending = sending_of(of);
+    const struct delays none = { .seconds = 0 };
+    int i;
+    run_text(outbox, "DELETE FROM text; DELETE FROM sealed");
+    for (i = 0; i < 3; i++)
+        put(outbox, of.name, bytes, 5);
+    run_text(outbox, "UPDATE text SET since = since - 50 WHERE id = (SELECT min(id) FROM text);"
+             "UPDATE text SET since = 0 WHERE id = (SELECT max(id) FROM text)");
+    check(seal_and_commit(outbox, &sending, 1) == SEAL_OK, "they are sealed");
+    check(outbox_begin(outbox) == OUTBOX_OK && outbox_drop_done(outbox, of.name, 4) == 0, "they are done");
+    outbox_rollback(outbox);
+    check(memcmp(&outbox->delays, &none, sizeof none) == 0, "which counts for nothing while it isn't committed");
+    for (i = 1; i <= 4; i++)
+        check(outbox_begin(outbox) == OUTBOX_OK && outbox_drop_done(outbox, of.name, (uint64_t)i) == 0
+              && outbox_commit(outbox) == 0, "one after the other is done");
+    check(outbox->delays.counts[8] == 1 && outbox->delays.seconds > 50 && outbox->delays.seconds < 80,
+          "the first took more than 30 seconds, and 100 at most");
+    for (i = 0; i < 8; i++)
+        outbox->delays.counts[8] += outbox->delays.counts[i];
+    check(outbox->delays.counts[8] == 2, "the second fewer, and the third isn't counted");
+    run_text(outbox, "DELETE FROM text");
+    seal_free(&sending);
 }
 
 /* A history, each of whose bytes is this one. */
@@ -510,6 +539,7 @@ int main(int count, char **words)
     RUN(test_nothing_left(&outbox));
     RUN(test_compare(&outbox));
     RUN(test_bound(&outbox));
+    RUN(test_delays(&outbox));
     RUN(test_done(&outbox));
     RUN(test_ended(&outbox));
     RUN(test_owner(&outbox, path));

@@ -28,7 +28,8 @@ import jetstream
 import loglines
 
 DAYS = 86400            # seconds
-STATUS = os.path.join(os.path.dirname(os.path.abspath(__file__)), "../status")
+SOURCES = os.path.dirname(os.path.dirname(os.path.abspath(__file__)))
+STATUS = os.path.join(SOURCES, "status")
 TOO_LONG = 1_000_001    # bytes of a text
 READING = 1.0           # seconds at most for reading a file of 100,000 sessions, beside other work
 FORGED = 2**62          # an offset that no stream has
@@ -1324,6 +1325,33 @@ def require_age(place, process, port):
     place.require(float(numbers(port)["krbrelay_sender_oldest_text_seconds{}"]) == 0, "the age, of none")
 
 
+def require_delays(place, port, wanted):
+    """How many texts took so many seconds at most, from their insertion to their receipt; those of which it isn't known when
+    they were put in don't count. They add up to what the buckets allow."""
+    name = "krbrelay_sender_delay_seconds"
+
+    def shown():
+        told = numbers(port)
+        return {bound: int(told[f'{name}_bucket{{le="{bound}"}}']) for bound in wanted}, int(told[f"{name}_count{{}}"])
+
+    fine = place.wait(lambda: shown() == (wanted, wanted["+Inf"]), 4)
+    place.require(fine, f"texts by their delay: {shown()}")
+    buckets = [int(count) for key, count in numbers(port).items() if key.startswith(f"{name}_bucket")]
+    place.require(len(buckets) == 14 and buckets == sorted(buckets), f"buckets: {buckets}")
+    slow = wanted["300"] - wanted["100"]
+    seconds = float(numbers(port)[f"{name}_sum{{}}"])
+    place.require(100 * slow < seconds < 300 * slow + 100 * wanted["100"], f"seconds of all: {seconds}")
+
+
+def require_build(place, port, program):
+    """Its version is that of this repository."""
+    with open(os.path.join(SOURCES, "../VERSION"), encoding="utf-8") as file:
+        version = file.read().strip()
+    named = f'krbrelay_{program}_build_info{{version="{version}",library="{version}",with="sqlite'
+    found = [number for key, number in numbers(port).items() if key.startswith(named)]
+    place.require(found == ["1"], f"{named}: {found}")
+
+
 def require_no_work(place, port):
     """An idle sender waits: that is no time for the carrier."""
     name = "krbrelay_sender_carrier_seconds_total{}"
@@ -1355,7 +1383,11 @@ def metrics(place):
         fine = place.wait(lambda: numbers(port).get(name) == number, 4)
         place.require(fine, f"{name} isn't {number}: {numbers(port).get(name)}")
     require_no_work(place, sender)
+    require_delays(place, sender, {"100": 300, "300": 300, "+Inf": 300})
     require_age(place, process, sender)
+    require_delays(place, sender, {"100": 300, "300": 301, "+Inf": 301})
+    require_build(place, sender, "sender")
+    require_build(place, receiver, "receiver")
     for port in (sender, receiver):
         place.require(get(port, "/healthz")[0] == 200, f"/healthz: {get(port, '/healthz')}")
         place.require(get(port, "/other")[0] == 404, "/other is there")

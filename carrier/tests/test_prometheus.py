@@ -167,13 +167,14 @@ def scraped(prefix, tmp_path_factory):
         config = file.read().replace("9750", str(of_sender)).replace("9751", str(of_receiver)).replace("15s", "1s")
     with open(f"{folder}/prometheus.yml", "w", encoding="utf-8") as file:
         file.write(config.replace("alerts.yml", os.path.join(MONITORING, "alerts.yml")))
+    # The first, since it may be missing, and then nothing else is left running.
+    prometheus = start(f"{folder}/prometheus.log", "prometheus", f"--config.file={folder}/prometheus.yml",
+                       f"--storage.tsdb.path={folder}/data", f"--web.listen-address=127.0.0.1:{own}", cwd=folder)
     both = "--sessions", f"{folder}/sessions", "--carrier", f"sqlite:{folder}/carrier.db", "--metrics"
     sender = start(f"{folder}/sender.log", f"{folder}/programs/sender", *both, f"127.0.0.1:{of_sender}",
                    "--outbox", f"{folder}/outbox.db", "--max-waiting", "1000")
     receiver = start(f"{folder}/receiver.log", f"{folder}/programs/receiver", *both, f"127.0.0.1:{of_receiver}",
                      "--store", f"sqlite:{folder}/store.db", "--shards", "0")
-    prometheus = start(f"{folder}/prometheus.log", "prometheus", f"--config.file={folder}/prometheus.yml",
-                       f"--storage.tsdb.path={folder}/data", f"--web.listen-address=127.0.0.1:{own}", cwd=folder)
     with all_ended(prometheus, receiver, sender):
         engines.await_port(own)
         engines.await_port(of_sender)

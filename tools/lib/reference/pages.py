@@ -525,9 +525,9 @@ class Writer:
                        Inline(" on whatever frames come. The prover has checked both. A reader has to"
                               " check that they say what is wanted, so has to believe the"
                               " definitions that they speak of. " + about)]),
-            Paragraph([Inline("Each lane of "), *code("relay", Target("krb_relay", "relay")),
-                       Inline(" is one instance: the definitions with which its contract says so"
-                              " are in the reference of its crates.")])]
+            Paragraph([Inline("The promise holds of every lane of "), *code("relay", Target("krb_relay", "relay")),
+                       Inline(": the definitions with which its contract says so are in the reference of its"
+                              " crates.")])]
         for crate, name, made in self.headline_calls():
             blocks += [Heading(2, f"The contract of {name.replace('.', '::')}", name.lower()),
                        Source(made.signature, "rust",
@@ -537,12 +537,13 @@ class Writer:
                 block.anchor = ""
                 blocks.append(block)
         blocks += [Heading(2, "The definitions", "definitions"),
-                   Paragraph(plain("The modules that the contracts reach in fewer steps come"
-                                   " first. The source is the standard that the definition, or the"
-                                   " head of its file, cites; the other definitions are this"
-                                   " project's."))]
-        for (crate, module), found in self.by_module(definitions).items():
-            blocks += self.module_rows(crate, module, found)
+                   Paragraph(plain("Each module is a row, with its definitions below it; those that the"
+                                   " contracts reach in fewer steps come first. The source is the"
+                                   " standard that the definition, or the head of its file, cites;"
+                                   " the other definitions are this project's.")),
+                   Table(["Definition", "What it says", "Source", "Lines"],
+                         [row for (crate, module), found in self.by_module(definitions).items()
+                          for row in self.module_rows(crate, module, found)])]
         blocks += self.headline_types()
         blocks += self.headline_words()
         return Page(HEADLINE, "What the headline rests on", blocks)
@@ -553,23 +554,18 @@ class Writer:
             found.setdefault((definition.ref.crate, definition.ref.module), []).append(definition)
         return found
 
-    def module_rows(self, crate: str, name: str, found: List[Definition]) -> Iterator[Block]:
+    def module_rows(self, crate: str, name: str, found: List[Definition]) -> Iterator[List[List[Inline]]]:
+        """The row of a module, and those of its definitions."""
         module = self.project.module_of(crate, name)
         assert module is not None
-        lines = sum(it.lines() for it in found)
-        yield Heading(3, f"{crate}: {name}", f"{crate}.{name}")
         about = sentence(module.comment) + " " if module.comment else ""
-        yield Paragraph(self.inlines(crate, about) + [
-            Inline(f"{counted(len(found), 'definition')}, {counted(lines, 'line')} of "),
-            link_to(module.file), Inline(".")])
+        yield [[Inline(f"{crate}: {name}", False, Target("", "", module.file))],
+               self.inlines(crate, about + counted(len(found), "definition") + ":"), plain(""),
+               plain(str(sum(it.lines() for it in found)))]
         order = {it.ref: place for place, it in enumerate(module.definitions)}
-        rows = []
         for it in sorted(found, key=lambda it: order[it.ref]):
-            rows.append([code(it.ref.word, self.target(it.ref)),
-                         self.inlines(crate, sentence(it.comment)),
-                         plain(source_in(it.comment, module.comment)),
-                         plain(str(it.lines()))])
-        yield Table(["Definition", "What it says", "Source", "Lines"], rows)
+            yield [code(it.ref.word, self.target(it.ref)), self.inlines(crate, sentence(it.comment)),
+                   plain(source_in(it.comment, module.comment)), plain(str(it.lines()))]
 
     def headline_types(self) -> Iterator[Block]:
         refs = sorted({it for it in self.headline if it.is_type()},
@@ -645,22 +641,52 @@ def source_in(comment: str, head: str) -> str:
     return source_of(comment) or source_of(head) or OWN
 
 
-def source_file(project: Project, target: Target) -> str:
-    """The file in which the item, the clause or the definition of a target stands."""
+def place_in(file: str, line: int, clauses: List[Clause], rest: List[str]) -> str:
+    """The place of a clause, by the end of its anchor, of what stands at a line; of the whole where it is none."""
+    names = {f"requires.{it.name}" if it.kind == "requires" else it.name: it.line for it in clauses if it.name}
+    return f"{file}#L{names.get('.'.join(rest), line)}"
+
+
+def place_in_item(item: Item, rest: List[str]) -> str:
+    """The same of a type or a trait: of its own clauses, a function's, or those of a trait that it implements."""
+    own = [it for part in item.implementations if not part.trait for it in part.functions if it.is_public]
+    for made in [*item.functions, *own]:
+        if rest and made.name == rest[0]:
+            return place_in(made.file, made.line, made.clauses, rest[1:])
+    for part in item.implementations:
+        if rest and part.trait and part.clauses and part.label() == rest[0]:
+            return place_in(part.file, item.line, part.clauses, rest[1:])
+    return place_in(item.file, item.line, item.clauses, rest)
+
+
+def source_place(project: Project, target: Target) -> str:
+    """The file in which the item, the clause or the definition of a target stands, with its line; of a crate its root."""
     crate = project.crates.get(target.page)
     first, *rest = target.anchor.split(".")
     if first == "specs":
-        module = project.module_of(target.page, ".".join(rest[:-1]))
+        module, name = project.module_of(target.page, ".".join(rest[:-1])), rest[-1]
+        if module is None:
+            module, name = project.module_of(target.page, ".".join(rest)), ""
         assert module is not None
-        return module.file
+        return next((f"{it.file}#L{it.line}" for it in module.definitions if it.ref.word == name), module.file)
     assert crate is not None
     if first in crate.functions:
-        return crate.functions[first].file
-    if first not in crate.items:
-        return f"crates/{target.page}/src/lib.rt"
-    item = crate.items[first]
-    made = [*item.functions, *(it for part in item.implementations for it in part.functions)]
-    return next((it.file for it in made if rest and it.name == rest[0]), item.file)
+        made = crate.functions[first]
+        return place_in(made.file, made.line, made.clauses, rest)
+    return place_in_item(crate.items[first], rest) if first in crate.items else f"crates/{target.page}/src/lib.rt"
+
+
+def lines_of(project: Project, crates: List[Page]) -> Dict[Tuple[str, str], str]:
+    """The lines of what the pages of crates show, and of all definitions, by the file and the name."""
+    found: Dict[Tuple[str, str], str] = {}
+    for page in crates:
+        for anchor in page.anchors():
+            file, _, line = source_place(project, Target(page.name, anchor)).partition("#L")
+            found[file, anchor] = line
+    for crate in project.crates.values():
+        for module in crate.modules.values():
+            found.update(((it.file, it.ref.word), str(it.line)) for it in module.definitions)
+    return found
 
 
 def pages_of(project: Project) -> List[Page]:

@@ -31,8 +31,14 @@ def fenced(source: Source, indent: str = "") -> Iterator[str]:
     yield f"{indent}```"
 
 
+def anchor_of(text: str) -> str:
+    """The anchor that a forge gives a heading."""
+    return re.sub(r"[^\w\- ]", "", text.strip().lower()).replace(" ", "-")
+
+
 def heading(block: Heading) -> Iterator[str]:
-    if block.anchor:
+    """With its anchor, unless the forge gives it that one."""
+    if block.anchor and block.anchor != anchor_of(block.text):
         yield f'<a id="{block.anchor}"></a>'
         yield ""
     yield "#" * block.level + " " + (f"`{block.text}`" if block.is_code else escaped(block.text))

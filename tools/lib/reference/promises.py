@@ -2,7 +2,7 @@
 doc comment, and the clauses by name. It is made of the pages of the crates."""
 from __future__ import annotations
 
-from typing import Iterator, List, Tuple
+from typing import Dict, Iterator, List, Tuple
 
 from lib.reference import pages
 from lib.reference.pages import (
@@ -13,8 +13,8 @@ TITLE = "What is proved, crate by crate"
 STATED = ("ensures", "ghost", "invariant")      # what a clause has to be to promise something
 INTRODUCTION = (
     "Every function of every crate is proved to be memory safe, not to overflow, and to return,"
-    " unless it waits for another thread. Beyond that, these are the public types and functions"
-    " with what is proved of them. Each name leads to the file that has its clause.")
+    " unless it waits for another thread. Beyond that, these are the public types, each with its"
+    " methods, and functions, with what is proved of them. Each name leads to the line of its item or clause.")
 
 
 def parts_of(page: Page) -> Iterator[Tuple[Heading, List[Block]]]:
@@ -59,13 +59,22 @@ def entries_of(page: Page, heading: Heading, blocks: List[Block]) -> Iterator[Li
         yield [*code(owner, Target(page.name, owner)), *plain(":"), *clauses(page, owner, others)]
 
 
+def together(anchor: str) -> str:
+    """What stands in one entry: a type with its methods, the exports of one handle or struct, a function."""
+    name = anchor.split(".")[0]
+    return "_".join(name.split("_")[:2]) if name.startswith("krbrelay_") else name
+
+
 def page_of(crates: List[Page]) -> Page:
     blocks: List[Block] = [Heading(1, TITLE, ""), Paragraph(plain(INTRODUCTION))]
     for page in crates:
-        entries = [it for heading, below in parts_of(page)
-                   for it in entries_of(page, heading, below)]
+        entries: Dict[str, List[Inline]] = {}
+        for heading, below in parts_of(page):
+            for it in entries_of(page, heading, below):
+                before = entries.setdefault(together(heading.anchor), [])
+                before += [*(plain(" ") if before else []), *it]
         if entries:
-            blocks += [Heading(2, page.title, page.name), Listing(entries)]
+            blocks += [Heading(2, page.title, page.name), Listing(list(entries.values()))]
     return Page(pages.PROMISES, TITLE, blocks)
 
 

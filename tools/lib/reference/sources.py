@@ -47,6 +47,7 @@ class Clause:
     kind: str       # requires, ensures, ghost
     name: str       # '' where it has none
     text: str
+    line: int
     comment: str = ""
 
 
@@ -58,6 +59,7 @@ class Function:
     clauses: List[Clause]
     scope: Scope
     file: str
+    line: int
     is_public: bool
 
 
@@ -70,6 +72,7 @@ class Implementation:
     clauses: List[Clause]
     functions: List[Function]
     scope: Scope
+    file: str
 
     def label(self) -> str:
         """The trait with its arguments, in letters."""
@@ -86,6 +89,7 @@ class Item:
     declaration: str
     whole: str      # with its private fields
     file: str
+    line: int
     clauses: List[Clause]
     functions: List[Function]
     implementations: List[Implementation]
@@ -106,6 +110,7 @@ class Definition:
     comment: str
     text: str
     file: str
+    line: int
     words: Set[str]     # those that aren't bound in it
 
     def lines(self) -> int:
@@ -279,18 +284,19 @@ def take_import(words: str, scope: Scope) -> None:
 
 @dataclasses.dataclass
 class Piece:
-    """A top-level piece of a block: its doc, its attributes and its text."""
+    """A top-level piece of a block: its doc, its attributes, its text and the line at which that begins."""
     doc: str
     attributes: str
     text: str
+    line: int
 
 
-def pieces(text: str, indent: int) -> Iterator[Piece]:
-    """The items of a block whose lines begin at an indentation."""
+def pieces(text: str, indent: int, first: int = 1) -> Iterator[Piece]:
+    """The items of a block whose lines begin at an indentation; its text begins in a line of its file."""
     masked = blanked(text, RUST_ASIDE).split("\n")
     doc, attributes, lines = [], [], []
     depth = 0
-    for raw, line in zip(text.split("\n"), masked):
+    for number, (raw, line) in enumerate(zip(text.split("\n"), masked), first):
         stripped = raw.strip()
         if not lines and depth == 0:
             if not stripped or stripped.startswith("//"):
@@ -307,7 +313,7 @@ def pieces(text: str, indent: int) -> Iterator[Piece]:
         ends = line.rstrip().endswith(";") or (
             line.rstrip().endswith("}") and len(raw) - len(raw.lstrip()) == indent)
         if depth == 0 and ends:
-            yield Piece("\n".join(doc), "\n".join(attributes), "\n".join(lines))
+            yield Piece("\n".join(doc), "\n".join(attributes), "\n".join(lines), number - len(lines) + 1)
             doc, attributes, lines = [], [], []
 
 
@@ -323,8 +329,13 @@ def comment_before(text: str) -> str:
     return " ".join(line[2:].strip() for line in lines if line.startswith("//"))
 
 
-def clauses_from(text: str, masked: str, place: int) -> List[Clause]:
-    """The clauses of a contract that begins at a place."""
+def line_at(text: str, place: int, first: int) -> int:
+    """The line of a place of a text that begins in a line."""
+    return first + text.count("\n", 0, place)
+
+
+def clauses_from(text: str, masked: str, place: int, first: int) -> List[Clause]:
+    """The clauses of a contract that begins at a place of a text, which begins in a line of its file."""
     found, before = [], place
     while True:
         at = place
@@ -334,7 +345,7 @@ def clauses_from(text: str, masked: str, place: int) -> List[Clause]:
         if not match:
             return found
         end = close_of(masked, match.end())
-        found.append(Clause(match[1], match[2], dedented(text[match.end() + 1:end]),
+        found.append(Clause(match[1], match[2], dedented(text[match.end() + 1:end]), line_at(text, at, first),
                             comment_before(text[before:at])))
         place = before = end + 1
 
@@ -348,17 +359,17 @@ def function(piece: Piece, scope: Scope, file: str, name: str, is_public: bool) 
     at = close_of(masked, masked.index("(", at)) + 1
     while masked[at] not in "{;" and not CLAUSE.match(masked, at):
         at = close_of(masked, at) + 1 if masked[at] in OPENING else at + 1
-    return Function(name, piece.doc, text[:at].strip(), clauses_from(text, masked, at), scope, file,
-                    is_public)
+    return Function(name, piece.doc, text[:at].strip(), clauses_from(text, masked, at, piece.line), scope, file,
+                    piece.line, is_public)
 
 
-def ghosts(text: str) -> List[Clause]:
-    """The ghost members of a block."""
+def ghosts(text: str, first: int) -> List[Clause]:
+    """The ghost members of a block, which begins in a line of its file."""
     masked = blanked(text, RUST_ASIDE)
     found = []
     for match in GHOST.finditer(masked):
         inside = text[match.end() + 1:close_of(masked, match.end())]
-        found.append(Clause("ghost", match[1], dedented(inside)))
+        found.append(Clause("ghost", match[1], dedented(inside), line_at(text, match.start(1), first)))
     return found
 
 
@@ -400,19 +411,20 @@ def doc_of(text: str) -> str:
     return "\n".join(lines)
 
 
-def body_of(text: str) -> str:
-    """What stands between the braces of an item."""
-    masked = blanked(text, RUST_ASIDE)
+def body_of(piece: Piece) -> Tuple[str, int]:
+    """What stands between the braces of an item, and the line in which that begins."""
+    masked = blanked(piece.text, RUST_ASIDE)
     begin = masked.index("{")
-    return text[begin + 1:close_of(masked, begin)]
+    return piece.text[begin + 1:close_of(masked, begin)], line_at(piece.text, begin, piece.line)
 
 
-def members(text: str, scope: Scope, file: str, all_public: bool
+def members(whole_piece: Piece, scope: Scope, file: str, all_public: bool
             ) -> Tuple[List[Clause], List[Function], Scope]:
     """The ghost members and the functions of a trait or an implementation."""
-    inside, functions = body_of(text), []
+    functions = []
+    inside, first = body_of(whole_piece)
     own = Scope()
-    for piece in pieces(inside, 4):
+    for piece in pieces(inside, 4, first):
         head = HEAD.match(piece.text)
         if head and head[2] == "ghost use":
             take_import(piece.text.strip()[len("ghost use "):].rstrip(";"), own)
@@ -422,7 +434,7 @@ def members(text: str, scope: Scope, file: str, all_public: bool
     whole = scope.beside(own)
     for made in functions:
         made.scope = whole
-    return ghosts(inside), functions, whole
+    return ghosts(inside, first), functions, whole
 
 
 def implementation(piece: Piece, scope: Scope, file: str) -> Tuple[str, Implementation]:
@@ -435,9 +447,9 @@ def implementation(piece: Piece, scope: Scope, file: str) -> Tuple[str, Implemen
     if not is_trait:
         trait, name = "", rest
     plain = re.sub(r"<.*", "", name).strip().lstrip("&").split("::")[-1]
-    clauses, functions, whole = members(piece.text, scope, file, False)
+    clauses, functions, whole = members(piece, scope, file, False)
     short = re.sub(r"<.*", "", trait).split("::")[-1]
-    return plain, Implementation(header, short, name.strip(), clauses, functions, whole)
+    return plain, Implementation(header, short, name.strip(), clauses, functions, whole, file)
 
 
 def item(piece: Piece, kind: str, name: str, scope: Scope, file: str) -> Item:
@@ -446,12 +458,12 @@ def item(piece: Piece, kind: str, name: str, scope: Scope, file: str) -> Item:
     clauses, functions = [], []
     declaration = text
     if kind == "trait":
-        clauses, functions, scope = members(text, scope, file, True)
+        clauses, functions, scope = members(piece, scope, file, True)
         declaration = text[:blanked(text, RUST_ASIDE).index("{")].strip()
     elif kind == "struct":
         declaration = shown_fields(text)
-        clauses = ghosts(text)
-    return Item(kind, name, piece.doc, derives + declaration, text, file, clauses, functions, [],
+        clauses = ghosts(text, piece.line)
+    return Item(kind, name, piece.doc, derives + declaration, text, file, piece.line, clauses, functions, [],
                 scope)
 
 
@@ -543,26 +555,34 @@ def comment_of(lines: List[str]) -> str:
 SECTION = re.compile(r"^-- ----")
 
 
-def chunks(text: str) -> List[List[str]]:
-    """The lines between blank lines."""
-    return [it.split("\n") for it in re.split(r"\n(?:[ \t]*\n)+", text.strip("\n"))]
+def chunks(text: str) -> List[Tuple[int, List[str]]]:
+    """The lines between blank lines, with the number of the first."""
+    found: List[Tuple[int, List[str]]] = []
+    goes_on = False
+    for number, line in enumerate(text.split("\n"), 1):
+        if line.strip() and not goes_on:
+            found.append((number, []))
+        goes_on = bool(line.strip())
+        if goes_on:
+            found[-1][1].append(line)
+    return found
 
 
-def add_definition(module: Module, comment: List[str], text: str, outer: Set[str]) -> None:
+def add_definition(module: Module, comment: List[str], text: str, line: int, outer: Set[str]) -> None:
     text = outdented(text)
     found = DEFINES.match(text)
     assert found is not None
     kind, word = found[1] or found[3], found[2] or found[4]
     module.definitions.append(Definition(Ref(module.crate, module.name, word), kind,
-                                         comment_of(comment), text, module.file,
+                                         comment_of(comment), text, module.file, line,
                                          words_of(text, kind, word, outer)))
     if kind == "data":
         module.makers.update({it: word for it in re.findall(r"^\s+(\w+) :", text, re.M)})
 
 
-def read_chunk(module: Module, lines: List[str], outer: Set[str]) -> Set[str]:
-    """Adds the imports and the definition of a chunk. `outer` has what the enclosing module binds;
-    what binds the next chunk is returned."""
+def read_chunk(module: Module, first: int, lines: List[str], outer: Set[str]) -> Set[str]:
+    """Adds the imports and the definition of a chunk, whose first line has this number. `outer` has what the enclosing
+    module binds; what binds the next chunk is returned."""
     comment: List[str] = []
     for at, line in enumerate(lines):
         if SECTION.match(line):
@@ -576,19 +596,19 @@ def read_chunk(module: Module, lines: List[str], outer: Set[str]) -> Set[str]:
             outer = {word for found in BINDERS.finditer(header) for word in found[1].split()}
         elif DEFINES.match(line[2:] if line.startswith("  ") else line):
             outer = outer if line.startswith("  ") else set()
-            add_definition(module, comment, "\n".join(lines[at:]), outer)
+            add_definition(module, comment, "\n".join(lines[at:]), first + at, outer)
             break
     return outer
 
 
 def antt_module(text: str, crate: str, name: str, file: str) -> Module:
     module = Module(crate, name, file, "", [], Scope(), {})
-    first, *others = chunks(text)
+    (number, first), *others = chunks(text)
     count = next((at for at, line in enumerate(first) if not line.startswith("--")), len(first))
     module.comment = comment_of(first[:count])
     outer: Set[str] = set()
-    for lines in [first[count:], *others]:
-        outer = read_chunk(module, lines, outer)
+    for at, lines in [(number + count, first[count:]), *others]:
+        outer = read_chunk(module, at, lines, outer)
     return module
 
 
