@@ -48,14 +48,16 @@ def got(ends, *words):
     return [json.loads(line) for line in printed.splitlines()]
 
 
-def deliver(ends):
-    """All that was put, with its receipts."""
+def deliver(ends, meanwhile=lambda: None, at_last=lambda: None):
+    """All that was put, and is put meanwhile, with its receipts. Then something may be looked at."""
     started = [ends.sender(), ends.receiver()]
+    meanwhile()
     with contextlib.closing(sqlite3.connect(f"{ends.folder}/outbox.db", timeout=30)) as file:
         until = time.monotonic() + TO_WAIT
         while file.execute("SELECT (SELECT count(*) FROM text) + (SELECT count(*) FROM sealed)").fetchone()[0]:
             assert time.monotonic() < until, ends.log()[-2000:]
             time.sleep(0.05)
+        at_last()
     for it in started:
         it.send_signal(signal.SIGTERM)
         assert it.wait(TO_WAIT) == 0
@@ -77,6 +79,21 @@ def test_what_was_put_is_got(ends):
         == [it["id"] for it in got(ends)[1:3]]
     with open(MODULE, "rb") as file:
         assert ran("get", "ann", "--raw", "--store", ends.store)[1].encode() == file.read()
+
+
+def test_the_logs_of_databases_are_written_back(ends):
+    """Each has 16 MB and some transactions at most, of 54 MB that pass through it."""
+    sizes = {}
+
+    def put_all():
+        for _ in range(30):
+            assert put(ends, "--lines", "tom", given=(b"x" * 900_000 + b"\n") * 2) == (0, "", "")
+
+    def look():
+        sizes.update({name: os.path.getsize(f"{ends.folder}/{name}") for name in os.listdir(ends.folder) if name.endswith("-wal")})
+
+    deliver(ends, put_all, look)
+    assert len(sizes) == 3 and max(sizes.values()) < 36 << 20, sizes
 
 
 def test_waiting_for_a_receipt(ends):
