@@ -117,22 +117,30 @@ static uint64_t patience(const struct waiting *it, uint64_t now)
     return it->passes_on ? UINT64_MAX : 1 + (now - it->came) / 2;
 }
 
+/* A wait that isn't cut short. A transaction writes several times: they are passed on together. */
+static int is_brief(const struct waiting *it, uint64_t now, uint64_t moment)
+{
+    return moment - now <= BRIEF || (it->passes_on && now < it->came + BRIEF);
+}
+
 static uint64_t end_of(const struct waiting *it, uint64_t now, uint64_t moment)
 {
     uint64_t most = patience(it, now), end = moment;
-    if (moment - now > BRIEF && most < UINT64_MAX && now + most < end)
+    if (is_brief(it, now, moment))
+        return moment - now <= BRIEF ? moment : it->came + BRIEF;
+    if (most < UINT64_MAX && now + most < end)
         end = now + most;
     if (it->count > 0 && it->looked + LONGEST < end)
         end = it->looked + LONGEST;
     return end;
 }
 
-/* Sleeps, and unless that is brief no longer than until something comes: 1 if it was woken by
- * another thread. */
-static int sleep_until(struct waiting *it, int is_brief, uint64_t now, uint64_t end)
+/* Sleeps, and unless it is deaf no longer than until something comes: 1 if it was woken by another
+ * thread. */
+static int sleep_until(struct waiting *it, int is_deaf, uint64_t now, uint64_t end)
 {
-    struct pollfd all[] = { { is_brief ? -1 : it->woken, POLLIN, 0 },
-                            { is_brief ? -1 : it->changes, POLLIN, 0 },
+    struct pollfd all[] = { { is_deaf ? -1 : it->woken, POLLIN, 0 },
+                            { is_deaf ? -1 : it->changes, POLLIN, 0 },
                             { it->is_told ? -1 : ending_descriptor(), POLLIN, 0 } };
     uint64_t time = end > now ? end - now : 0, count;
     struct timespec wait = { (time_t)(time / 1000), (long)(time % 1000) * 1000000 };
@@ -148,7 +156,7 @@ int waiting_until(struct waiting *it, uint64_t moment)
     int was_woken, has_come;
     if (moment <= now)
         return 0;
-    was_woken = sleep_until(it, moment - now <= BRIEF, now, end_of(it, now, moment));
+    was_woken = sleep_until(it, is_brief(it, now, moment), now, end_of(it, now, moment));
     has_come = take_changes(it);
     now = milliseconds();
     if (was_woken || has_come)

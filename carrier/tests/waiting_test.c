@@ -81,6 +81,9 @@ static void test_file(const char *path)
     lasts(&it, SHORT);
     write_to(beside);
     check(is_cut_short(&it) == 1, "a write beside the database ends the wait");
+    write_to(beside);
+    check(is_cut_short(&it) == 1, "so does one that follows it at once");
+    pause_milliseconds(BRIEF);
     lasts(&it, SHORT);
     write_to(database);
     lasts(&it, SHORT);
