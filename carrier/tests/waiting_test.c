@@ -89,6 +89,7 @@ static void test_file(const char *path)
     lasts(&it, SHORT);
     check(rename(database, beside) == 0 && is_cut_short(&it) == 1, "another file in its place does");
     write_to(database);
+    pause_milliseconds(BRIEF);
     (void)waiting_until(&it, milliseconds() + SECOND + SHORT); /* by then it is watched */
     write_to(beside);
     check(is_cut_short(&it) == 1, "what is written to that one does");
