@@ -4,6 +4,7 @@
 #include "check.h"
 
 #include <string.h>
+#include <sys/stat.h>
 
 enum { FRAMES = 500, PATIENCE = 100, SHARD = 900 };
 
@@ -114,6 +115,7 @@ int main(int count, char **words)
     struct carrier_options options = { .replicas = count > 2 ? (unsigned)atoi(words[2]) : 1 };
     struct carrier *c, *reader;
     unsigned i;
+    umask(077); /* as the programs: databases are their owner's alone */
     check_only(3, count, words);
     check(count >= 2, "usage: carrier_test WHERE [REPLICAS [TEST..]]");
     options.where = words[1];

@@ -8,6 +8,7 @@
 #include "seal.h"
 
 #include <string.h>
+#include <sys/stat.h>
 
 enum { LONGEST = 1000000, SAME = 40, TEXTS = 6 };
 
@@ -520,6 +521,7 @@ int main(int count, char **words)
     struct outbox outbox = { 0 };
     char path[4096];
     size_t i;
+    umask(077); /* as the programs: databases are their owner's alone */
     check_only(2, count, words);
     check(count >= 2, "outbox_test FOLDER [TEST..]");
     for (i = 0; i < LONGEST; i++)

@@ -8,6 +8,7 @@
 #include "seal.h"
 
 #include <string.h>
+#include <sys/stat.h>
 #include <sys/wait.h>
 #include <unistd.h>
 
@@ -278,6 +279,7 @@ int main(int count, char **words)
 {
     uint64_t step, seed;
     int is_at_end = 0;
+    umask(077); /* as the programs: databases are their owner's alone */
     check(count == 2, "power_test FOLDER");
     snprintf(outbox_path, sizeof outbox_path, "%s/power_outbox.db", words[1]);
     snprintf(store_path, sizeof store_path, "sqlite:%s/power_store.db", words[1]);

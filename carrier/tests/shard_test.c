@@ -462,6 +462,7 @@ int main(int count, char **words)
     struct carrier *carrier;
     sqlite3 *asked = NULL;
     uint64_t incarnation = 0;
+    umask(077); /* as the programs: databases are their owner's alone */
     check(count == 2, "shard_test FOLDER");
     snprintf(store, sizeof store, "sqlite:%s/shard.db", words[1]);
     snprintf(where, sizeof where, "sqlite:%s/frames.db", words[1]);

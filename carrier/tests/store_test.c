@@ -5,6 +5,7 @@
 
 #include <pthread.h>
 #include <string.h>
+#include <sys/stat.h>
 #include <time.h>
 #include <unistd.h>
 
@@ -209,6 +210,7 @@ int main(int count, char **words)
     struct reached from, to = at(16);
     struct demand before;
     struct store *one, *other;
+    umask(077); /* as the programs: databases are their owner's alone */
     check(count == 2, "usage: store_test WHERE");
     one = store_open(words[1], SHARD);
     other = store_open(words[1], SHARD);
