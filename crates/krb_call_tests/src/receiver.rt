@@ -184,19 +184,25 @@ fn what_is_refused_is_taken_alone(rt: HostRuntime) -> Result<(), Fail> {
         shard.stored();
     }
     assert_eq!(&rt; shard.reading().stored, spot(5, 12));
-    let mut now = 1_000;
-    for pause in [200, 400, 800, 1_600, 3_200, 5_000, 5_000] {
+    for (now, at) in [
+        (1_000, 1_200),
+        (1_200, 1_600),
+        (1_600, 2_400),
+        (2_400, 4_000),
+        (4_000, 7_200),
+        (7_200, 12_200),
+        (12_200, 17_200),
+    ] {
         begin(&rt, &mut shard, 13, now, true);
         fail(&rt, &mut shard, Failure::Refused, 13, Then::Wait);
-        assert_eq!(&rt; shard.turn(now), Turn::Wait { at: now + pause });
-        assert_eq!(&rt; shard.turn(now + pause), Turn::Read);
-        now += pause;
+        assert_eq!(&rt; shard.turn(now), Turn::Wait { at });
+        assert_eq!(&rt; shard.turn(at), Turn::Read);
     }
-    begin(&rt, &mut shard, 13, now, true);
+    begin(&rt, &mut shard, 13, 17_200, true);
     take(&rt, &mut shard, 0, ACCEPTED, 13, Outcome::Accepted)?;
     shard.stored();
-    assert_eq!(&rt; shard.turn(now), Turn::Read);
-    begin(&rt, &mut shard, 14, now, false);
+    assert_eq!(&rt; shard.turn(17_200), Turn::Read);
+    begin(&rt, &mut shard, 14, 17_200, false);
     Ok(())
 }
 
