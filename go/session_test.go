@@ -128,11 +128,11 @@ func TestGoroutinesShareAPeer(t *testing.T) {
 	one := end(t, krbrelay.Client, krbrelay.Server)
 	var sealed sync.Map
 	var group sync.WaitGroup
-	for range [4]int{} {
+	for range [8]int{} {
 		group.Add(1)
 		go func() {
 			defer group.Done()
-			for count := 0; count < 100; count++ {
+			for count := 0; count < 50; count++ {
 				frame, err := one.Seal([]byte("text"))
 				if err != nil {
 					t.Error(err)

@@ -370,7 +370,7 @@ def note_libraries(copy):
         folder = copy.path("crates", crate, "out", "rlib", f"{crate}.rlib")
         os.makedirs(folder, exist_ok=True)
         copy.append("sums\n", folder, "format")
-    subprocess.run([sys.executable, "-c", NOTE, *LIBRARIES], check=True, cwd=copy.path("tools"))
+    subprocess.run([sys.executable, "-c", NOTE, *LIBRARIES], check=True, cwd=copy.path("tools"), env=copy.given)
 
 IS_BUILT = """
 import sys
@@ -382,7 +382,7 @@ sys.exit(not building.is_built("krb_c", building.top_of("krb_c")))
 def is_built(copy):
     """Whether krb_c is noted as built from the present sources."""
     return subprocess.run([sys.executable, "-c", IS_BUILT], check=False,
-                          cwd=copy.path("tools")).returncode == 0
+                          cwd=copy.path("tools"), env=copy.given).returncode == 0
 
 
 def see_lines_of_crates(copy, run):
@@ -436,6 +436,48 @@ def test_static_library(copy):
     copy.append("// newer\n", "crates", "krb_c", "src", "lib.rt")
     copy.append("other sums\n", "crates", "krb_base", "out", "rlib", "krb_base.rlib", "format")
     assert sorted(run()[3]) == sorted([*LIBRARIES, "krb_c"]), "a changed library below"
+
+
+def test_what_another_kit_proved(copy):
+    """It is proved again by the kit that is there now, and once."""
+    note_libraries(copy)
+    assert copy.run("proving.py krb_c")[0] == 0 and is_built(copy)
+    with open(os.path.join(os.path.dirname(copy.top), "KIT-ID"), "w", encoding="utf-8") as file:
+        file.write("another kit\n")
+    assert not is_built(copy)
+    note_libraries(copy)
+    assert [len(copy.run("proving.py krb_c")[3]) for _ in range(2)] == [1, 0]
+
+
+# In the place of what writes the assembly of krb_c, where it isn't there, and of what compiles that.
+DIST = """#!/bin/sh
+source=$(dirname "$0")/../crates/krb_c/src/lib.rt
+shift
+for it in "$@"; do cmp -s "$source" "$it" || cp "$source" "$it"; done
+"""
+MAKEFILE = """all: built
+built: krbrelay.s krbrelay-v3.s
+\techo compiles >> "$(NOTES)" && touch built
+"""
+
+
+def test_what_c_library_builds(copy):
+    """It stays when `rt ci` makes the folder `out` of each crate anew, and is built again where a source changed."""
+    for path, text in (("c/dist", DIST), ("c/Makefile", MAKEFILE)):
+        with open(copy.path(path), "w", encoding="utf-8") as file:
+            file.write(text)
+
+    def build():
+        status, out, err, notes = copy.run("c/library --build")
+        assert (status, out) == (0, "c_library: built\n"), err
+        return any(it.startswith("build ") for it in notes), "compiles" in notes
+
+    note_libraries(copy)
+    assert build() == (True, True)
+    shutil.rmtree(copy.path("crates", "krb_c", "out"), ignore_errors=True)
+    assert build() == (False, False)
+    copy.append("// new\n", "crates", "krb_c", "src", "lib.rt")
+    assert build() == (True, True)
 
 
 # ---- the table of tools

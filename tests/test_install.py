@@ -1,16 +1,18 @@
 """Tests what tools/install installs: the page of the manual and the completions say what the program's --help
-says, and what is installed is what is removed. The completions of bash and fish are asked as the shells ask them,
+says, and what is installed is what is removed; and what c/Makefile builds and installs, over code of no use. The
+completions of bash and fish are asked as the shells ask them,
 and that of zsh is read; a shell that isn't installed is skipped."""
 import os
 import re
 import shutil
+import stat
 import subprocess
 import tempfile
 
 import pytest
 
 from lib import manual, scripts
-from lib.build import building
+from lib.build import building, levels
 
 # The words that are completed, and whether options are asked for.
 LINES = [([], False), ([], True), (["relay"], True), (["show"], True), (["relay", "-h"], False)]
@@ -129,17 +131,38 @@ def library_in(folder):
     return str(folder)
 
 
+def closed(folder):
+    """Files and folders below a folder that not everybody may read, and programs that not everybody may run."""
+    for name in tree(folder):
+        mode = os.lstat(os.path.join(folder, name)).st_mode
+        needed = 0o777 if stat.S_ISLNK(mode) else 0o755 if stat.S_ISDIR(mode) or mode & 0o100 else 0o644
+        if stat.S_IMODE(mode) != needed:
+            yield f"{name} has the mode {stat.S_IMODE(mode):o}"
+
+
+@pytest.fixture
+def for_its_owner():
+    """Whose own files nobody else may read."""
+    before = os.umask(0o077)
+    yield
+    os.umask(before)
+
+
+@pytest.mark.usefixtures("for_its_owner")
 def test_what_is_installed_is_what_is_removed(krbrelay, tmp_path):
     """A whole install into a folder that has something, twice, and its end."""
     tool, folder = scripts.load("install"), str(tmp_path / "prefix with a space")
     os.makedirs(os.path.join(folder, "share", "man"))
     with open(os.path.join(folder, "share", "man", "own"), "w", encoding="utf-8") as file:
         file.write("of the user\n")
+    for made in ("", "share", "share/man", "share/man/own"):
+        os.chmod(os.path.join(folder, made), 0o644 if made.endswith("own") else 0o755)
     before = tree(folder)
     files = tool.install(folder, krbrelay, library_in(tmp_path / "library"))
     assert len(files) == len(tool.FILES) + 5 and all(os.path.exists(os.path.join(folder, it)) for it in files)
     assert os.readlink(os.path.join(folder, "lib", "libkrbrelay.so")) == "libkrbrelay.so.1"
     whole = tree(folder)
+    assert not list(closed(folder))
     tool.install(folder, krbrelay)
     assert tree(folder) == whole, "once more is the same"
     ran = subprocess.run([os.path.join(folder, "bin", "krbrelay"), "--version"], check=True,
@@ -153,3 +176,84 @@ def test_what_is_installed_is_what_is_removed(krbrelay, tmp_path):
     assert tree(folder) == before, "the end leaves what was there"
     with pytest.raises(tool.Fault):
         tool.uninstall(folder)
+
+
+# ---- the C library, of code that does nothing
+
+FUNCTIONS = sorted(set(re.findall(r"\bkrbrelay_\w+", building.text_of("c/krbrelay.map"))))
+OBJECTS = {"krbrelay.s": "libkrbrelay.so.1", "krbrelay-v3.s": "v3/libkrbrelay.so.1"}
+
+
+def write_code(path, instruction="ret"):
+    """Each function, weak: those of the C beside it come first."""
+    named = "".join(f".weak {it}\n.type {it},@function\n{it}: {instruction}\n" for it in FUNCTIONS)
+    path.write_text(f'{named}.section .note.GNU-stack,"",@progbits\n', encoding="ascii")
+
+
+@pytest.fixture
+def library(tmp_path):
+    """The folder in which both objects are built."""
+    for name in OBJECTS:
+        write_code(tmp_path / name)
+    make(tmp_path)
+    return tmp_path
+
+
+def make(folder, *words):
+    subprocess.run(["make", "-s", "-f", f"{building.TOP}/c/Makefile", f"SOURCES={building.TOP}/c", "PROVED=krbrelay.s",
+                    "PROVED_V3=krbrelay-v3.s", *words], cwd=folder, check=True, capture_output=True)
+
+
+def test_both_objects_have_each_function(library):
+    for built in OBJECTS.values():
+        told = subprocess.run(["nm", "-D", "--defined-only", library / built], check=True, stdout=subprocess.PIPE, text=True)
+        assert sorted(re.findall(r" [TW] (krbrelay_\w+)@@", told.stdout)) == FUNCTIONS
+
+
+@pytest.mark.parametrize("name", OBJECTS)
+def test_changed_code_changes_its_object_alone(library, name):
+    before = {built: (library / built).read_bytes() for built in OBJECTS.values()}
+    write_code(library / name, "ud2")
+    make(library)
+    assert [built for built, was in before.items() if (library / built).read_bytes() != was] == [OBJECTS[name]]
+
+
+@pytest.mark.usefixtures("for_its_owner")
+def test_everybody_may_read_the_installed_library(library):
+    make(library, "PREFIX=prefix", "install")
+    assert len(tree(library / "prefix")) > 100 and not list(closed(library / "prefix"))
+
+
+# ---- which parts of its tests have run
+
+FEATURES = "fpu sse avx f16c xsave fma movbe abm bmi1 avx2 bmi2"
+
+
+def said_by_library(folder, commands, processor=FEATURES, loader="x86-64-v3 (supported, searched)"):
+    """What functions of c/library say and their status, as on a processor and with a loader."""
+    (folder / "v3").mkdir()
+    (folder / "processor").write_text(f"flags\t\t: {processor}\n", encoding="ascii")
+    (folder / "loader").write_text(f"#!/bin/sh\necho '  {loader}'\n", encoding="ascii")
+    (folder / "loader").chmod(0o755)
+    words = f". {building.TOP}/c/library; processor=processor; loader=./loader; {commands}"
+    done = subprocess.run(["bash", "-c", words], cwd=folder, check=False, capture_output=True, text=True)
+    return done.returncode, (done.stdout + done.stderr).splitlines()[-1:]
+
+
+def test_what_ran_and_what_was_skipped_is_counted(tmp_path):
+    told = said_by_library(tmp_path, "in_v3 true; skip one; in_v3 skip other; finish all")
+    assert told == (0, ["c_library: all passed; over the object for x86-64-v3: 2 parts; skipped: 2"])
+
+
+@pytest.mark.parametrize("left_out", ["", *FEATURES.split()[2:]])
+def test_a_processor_of_the_level_needs_a_test_over_its_object(tmp_path, left_out):
+    """Where the loader has it not, too."""
+    features = FEATURES.replace(left_out, "", 1) if left_out else FEATURES
+    status, _ = said_by_library(tmp_path, "in_v3 true; finish all", " ".join(features.split()), "x86-64-v2 (supported)")
+    assert status == (1 if not left_out else 0)
+
+
+def test_the_loader_s_own_words_are_read(tmp_path):
+    """A failing test over the object fails the run."""
+    has_level = bool(levels.own())
+    assert said_by_library(tmp_path, f"loader={levels.LOADER}; in_v3 false; finish all")[0] == has_level

@@ -291,7 +291,7 @@ def test_what_may_run_beside_the_gate():
 
 def test_a_part_that_takes_too_long(runs):
     """It ends, with all that it started."""
-    back = runs.given(("tools", "lib", "parts.py"), 'Part("tools/quotes", 1, over', 'Part("tools/quotes", 0.02, over')
+    back = runs.given(("tools", "lib", "parts.py"), 'Part("tools/quotes", 10, over', 'Part("tools/quotes", 0.02, over')
     try:
         status, out, _, notes = runs.run(HANGS="quotes")
     finally:

@@ -7,6 +7,7 @@ examples. A C compiler makes the libraries that interrupt reads and count naps.
 """
 import collections
 import os
+import re
 import resource
 import subprocess
 import tempfile
@@ -89,6 +90,23 @@ def test_statuses(t):
             b'lane 0 text 6869\nlane 0 TRUNCATED\n', b'')
 
 
+def of_mit():
+    """A job that opens the two KRB-PRIV of a change of a password that MIT's kpasswd and kadmind sent each other
+    (RFC 3244): the answer, whose data are the result 0, and the request, which has no number."""
+    captured, header = example('kpasswd.pcapng'), rb'\x75.\x30.\xa0\x03\x02\x01\x05\xa1\x03\x02\x01\x15'
+    places = [it.start() for it in re.finditer(header, captured, re.DOTALL)]
+    request, answer = (captured[at:at + 2 + captured[at + 1]] for at in places)
+    key, loopback = bytes.fromhex(example('kpasswd.key').decode()), (2, bytes([127, 0, 0, 1]))
+    session = jobs.Session(key, 'priv', 133398475, loopback, loopback, expect_time=False)
+    return jobs.job([jobs.sender(session, frames=[answer, request])]).encode()
+
+
+def test_data_that_are_no_record(t):
+    check(t.run(['open'], of_mit()), 3,
+            b'lane 0 refused 902 BAD_RECORD\nlane 0 refused 42 BADORDER\nlane 0 TRUNCATED\n', b'')
+    check(t.run(['open', '--plain'], of_mit()), 2, b'lane 0 data 0000\nlane 0 refused 42 BADORDER\n', b'')
+
+
 def test_batches(t):
     job = example('batches.toml')
     first, last = b'lane 0 text 61\nlane 0 text 62\n', b'lane 0 text 63\nlane 0 closed\n'
@@ -166,6 +184,8 @@ def test_command_line(t):
     check(t.run(['show', 'file']), 2, b'', lambda e: e.startswith(b'error: '))
     check(t.run(['relay', 'job.toml']), 2, b'',
             lambda e: b'Usage: krbrelay relay < JOB.toml\n' in e)
+    for words in (['seal', '--plain'], ['open', '--any'], ['open', '--plain=true']):
+        check(t.run(words), 2, b'', lambda e: e.startswith(b'error: '))
     check(t.run([b'\xff']), 2, b'',
             b'error: invalid UTF-8 was detected in one or more arguments\n')
     for word in ('--help', '-h'):

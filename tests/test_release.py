@@ -451,12 +451,13 @@ def test_the_tarball_has_the_source_of_each_clause():
 
 
 def test_clauses_have_the_digest_of_their_text():
-    named = statement.clauses()
-    assert len(named["krb_peers"]) > 50
+    """Those of each crate, as the reference lists them."""
+    listed, named = {}, statement.clauses()
+    for row, digests in claims.read(building.text_of("docs/reference/claims.txt")).items():
+        if row[0] == "claim":
+            listed.setdefault(row[1], {})[claims.key_of(row)] = " ".join(digests)
+    assert named == listed and len(named["krb_peers"]) > 50
     assert all(verifying.CLAIM(it) for crate in named.values() for it in crate.values())
-    listed = claims.read(building.text_of("docs/reference/claims.txt"))
-    headline = listed["claim", "krb_peers", "frames_laws", "ensures", "headline"]
-    assert named["krb_peers"]["frames_laws.headline"] == " ".join(headline)
 
 
 def test_the_checkout_is_compared(made, monkeypatch):
@@ -469,6 +470,16 @@ def test_the_checkout_is_compared(made, monkeypatch):
     monkeypatch.setattr(statement, "kit", lambda: "another kit")
     faults = list(verifying.of_checkout(told))
     assert len(faults) == 3 and faults[0] == f"the checkout: {CRATE}/src/lib.rt has other bytes than is stated"
+
+
+@pytest.mark.parametrize("stated, here", [
+    (HEAD + " and changes", HEAD), (HEAD, HEAD + " and changes"), (HEAD[:-1], HEAD), (HEAD, HEAD[:-1]), ("", HEAD)])
+def test_a_commit_is_another_one_in_any_letter(made, monkeypatch, stated, here):
+    told = json.loads(statement.bytes_of(made, STATEMENT))
+    of_this_machine(monkeypatch)
+    monkeypatch.setattr(statement, "commit", lambda: here)
+    told["commit"] = stated
+    assert f"the checkout is of {here}, and the statement names {stated}" in verifying.of_checkout(told)
 
 
 @pytest.fixture
@@ -623,6 +634,18 @@ def test_a_verdict_is_of_its_sources(tmp_path, monkeypatch):
     assert ci.verdict_of("krb_time") is None
     monkeypatch.setattr(building, "digest_of", lambda crate: "of changed sources")
     assert ci.verdict_of(CRATE) is None
+
+
+@pytest.mark.parametrize("lines, status, verdict", [
+    ("logic=proved functions=7 may-wait=1 sum=1", 0, ci.Verdict(7, 1)),
+    ("logic=proved functions=7 may-wait=1 sum=1", 1, None), ("logic=rejected functions=7 sum=1", 0, None),
+    ("logic=proved functions=7 sum=1\\nlogic=proved functions=7 sum=1", 0, None), ("", 0, None)])
+def test_a_crate_is_proved_alone(monkeypatch, lines, status, verdict):
+    """By its one line and by its status: what isn't proved isn't noted."""
+    noted = []
+    monkeypatch.setattr(ci.over_gate, "words_to_check", lambda *_: ["sh", "-c", f"printf '{lines}\\n'; exit {status}"])
+    monkeypatch.setattr(ci, "note_verdict", lambda crate, _, of: noted.append((crate, of)))
+    assert ci.prove_alone(CRATE) == verdict and noted == [(CRATE, verdict)] * (verdict is not None)
 
 
 def test_each_crate_is_proved_here(monkeypatch):

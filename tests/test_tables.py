@@ -20,7 +20,7 @@ HELP = "crates/krb_program/src/help.rt"
 STRUCTS = ("crates/krb_structs/src/*.rt", "crates/krb_calls/src/unsealed.rt",
            "crates/krb_calls/src/frame.rt", "crates/krb_calls/src/taken.rt",
            "crates/krb_carrier_structs/src/*.rt", "crates/krb_window/src/window.rt")
-HANDLES = {"sealer", "opener", "receiver", "peer", "lane", "queue"}
+HANDLES = {"sealer", "opener", "receiver", "peer", "lane", "shard", "queue"}
 C_TYPES = {"uint64_t": "u64", "uint32_t": "u32", "int32_t": "i32", "uint8_t": "u8", "size_t": "usize",
            "const uint8_t *": "*const u8",
            **{f"struct krbrelay_{it}": f"Krb{it.capitalize()}" for it in
@@ -85,7 +85,13 @@ PROSE = ("crates/*/src/**/*.rt", HEADER, "docs/C.md", "docs/PYTHON.md", "docs/US
          PAGES + "/*.3", "python/krbrelay/*.py", "carrier/*.md", "carrier/man/*", "carrier/*/*.[ch]")
 OTHER_SIZES = re.compile(r"_tests/|/tests\.rt$|/krb_bench/|^carrier/(tests|simulation)/")
 NO_LIMITS = {"crates/krb_der/src/laws.rt": {65_000}, "carrier/OPERATION.md": {86_400}, "carrier/GUARANTEES.md": {1_024, 86_400},
-             "carrier/sender/outbox.h": {10_000, 100_000}}
+             "carrier/sender/outbox.h": {10_000, 100_000},
+             f"{PAGES}/krbrelay_demand.3": {2**32 - 1},     # seconds
+             "docs/C.md": {43_127}, HEADER: {16_384}}       # a port; bytes of stack
+# Here a number of five digits and more stands without commas too, and none is the last sequence number: what calls
+# take and tell is one more at most.
+OF_C = (HEADER, "docs/C.md", PAGES + "/*.3")
+PLAIN = r"(?<![\w.#/-])\d{5,}(?![\w.])"
 WALKS = "CONTRIBUTING.md"
 SOURCES = ("tables/*", "crates/**/*", "python/**/*", "tools/**/*", "docs/*.md", "docs/*.1",
            "c/**/*", "tests/**/*", "conformance/**/*", "kerberos/**/*", "carrier/**/*",
@@ -270,15 +276,15 @@ def places():
         yield page, r'^\.TH \S+ [13578] \S+ "krbrelay (.*?)"', "whole"
 
 
-def written():
-    """Each number with commas in prose: its place, and the number."""
-    for place in PROSE:
+def written(places, number=r"\b\d{1,3}(?:,\d{3})+\b"):
+    """Each number in prose, of those with commas: its place, and the number."""
+    for place in places:
         for path in sorted(glob.glob(os.path.join(building.TOP, place), recursive=True)):
             name = os.path.relpath(path, building.TOP)
             if OTHER_SIZES.search(name):
                 continue
-            for number in re.findall(r"\b\d{1,3}(?:,\d{3})+\b", building.text_of(name)):
-                yield name, int(number.replace(",", ""))
+            for found in re.findall(number, building.text_of(name)):
+                yield name, int(found.replace(",", ""))
 
 
 def unnamed(names):
@@ -320,8 +326,10 @@ def of_limits():
     for path, known in (HEADER, of_header()[1]), *limits_of_bindings():
         yield f"{path}, FRAME_OVERHEAD", known["FRAME_OVERHEAD"], room["FRAME_OVERHEAD"]
     known = {*limits.values(), *job.values(), limits["LAST_NUMBER"] + 1}
-    for path, number in written():
-        yield f"{path}, {number:,}", number in known | NO_LIMITS.get(path, set()), True
+    of_c = known - {limits["LAST_NUMBER"]}
+    for those, found in ((known, written(PROSE)), (of_c, written(OF_C, PLAIN))):
+        for path, number in found:
+            yield f"{path}, {number:,}", number in those | NO_LIMITS.get(path, set()), True
     size = int(re.search(r"#define KRBRELAY_TEXT_SIZE (\d+)", building.text_of("c/krbrelay.h"))[1])
     for name, row in tomllib.loads(building.text_of("tables/answers.toml")).items():
         yield f"the text of {name} has room", len(row["text"].encode()) < size, True

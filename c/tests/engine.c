@@ -468,6 +468,160 @@ static uint32_t judges(struct krbrelay_head head, struct krbrelay_opening openin
     return krbrelay_judge(&head, &opening, &judged) == KRBRELAY_OK ? judged : 99;
 }
 
+/* ---- a shard with its sessions */
+
+static uint32_t takes_at(struct krbrelay_shard *shard, uint32_t place, const char *frame, struct krbrelay_seen seen, uint64_t offset)
+{
+    uint32_t outcome = 99;
+    return krbrelay_shard_take(shard, place, (const uint8_t *)frame, strlen(frame), &seen, offset, &outcome) == KRBRELAY_OK
+           ? outcome : 99;
+}
+
+static int turns(struct krbrelay_shard *shard, uint64_t now, uint32_t wanted, uint64_t wanted_at)
+{
+    uint32_t turn = 99;
+    uint64_t at = 99;
+    return krbrelay_shard_turn(shard, now, &turn, &at) == KRBRELAY_OK && turn == wanted && at == wanted_at;
+}
+
+static int begins(struct krbrelay_shard *shard, uint64_t first, uint64_t now, uint32_t alone)
+{
+    uint32_t is_alone = 99;
+    return krbrelay_shard_begin(shard, first, now, &is_alone) == KRBRELAY_OK && is_alone == alone;
+}
+
+static int fails(struct krbrelay_shard *shard, uint32_t failure, uint64_t offset, uint32_t wanted)
+{
+    uint32_t then = 99;
+    return krbrelay_shard_failed(shard, failure, offset, &then) == KRBRELAY_OK && then == wanted;
+}
+
+static int finds(struct krbrelay_shard *shard, uint64_t list, uint64_t offset, uint32_t wanted)
+{
+    uint32_t found = 99;
+    return krbrelay_shard_found(shard, list, offset, &found) == KRBRELAY_OK && found == wanted;
+}
+
+/* The receipt that leaves now is of this session, or asks for 0. */
+static int pays(struct krbrelay_shard *shard, uint64_t now, uint32_t place, uint64_t number, uint32_t asks)
+{
+    struct krbrelay_receipt told = { .number = 99, .asks = 99 };
+    uint32_t of = 99;
+    return krbrelay_shard_receipt(shard, now, &of, &told) == KRBRELAY_OK && told.asks == asks
+           && (asks == 0 || (of == place && told.number == number));
+}
+
+static int reads_to(struct krbrelay_shard *shard, uint64_t list, uint64_t offset)
+{
+    struct krbrelay_reading told = { .reserved = 9 };
+    return krbrelay_shard_reading(shard, &told) == KRBRELAY_OK && told.read.list == list && told.read.offset == offset;
+}
+
+static const struct krbrelay_seen ACCEPTED = { .accepted = 1 }, BELOW = { .opened = 6, .has_opened = 1 };
+
+/* A shard with two sessions at offset 4 of list 7, of which the first demands 7, and the second 9. */
+static void shard_with_two(struct krbrelay_shard *shard, uint32_t are_outside, uint32_t put_aside)
+{
+    static const struct krbrelay_row first = { .number = 7 }, second = { .number = 9 };
+    uint32_t place = 99, is_elsewhere = 99;
+    IS(krbrelay_shard_new(shard, are_outside, put_aside));
+    CHECK(turns(shard, 1000, KRBRELAY_TURN_LOAD, 0));
+    IS(krbrelay_shard_loaded(shard, 7, 4));
+    IS(krbrelay_shard_listed(shard, 7, 20, &is_elsewhere));
+    CHECK(is_elsewhere == 0 && reads_to(shard, 7, 4) && turns(shard, 1000, KRBRELAY_TURN_READ, 0));
+    IS(krbrelay_shard_add(shard, &first, &place));
+    CHECK(place == 0);
+    IS(krbrelay_shard_add(shard, &second, &place));
+    CHECK(place == 1 && krbrelay_shard_next_time(shard) == UINT64_MAX);
+}
+
+/* A transaction of two sessions' frames and of one that is nobody's is stored, and both receipts leave. */
+static void shard_stores(void)
+{
+    struct krbrelay_shard shard = KRBRELAY_INIT;
+    struct krbrelay_receiving end;
+    shard_with_two(&shard, 0, 0);
+    CHECK(begins(&shard, 5, 1000, 0) && krbrelay_shard_is_full(&shard, 9000) == 0);
+    CHECK(takes_at(&shard, 0, "a", ACCEPTED, 5) == KRBRELAY_OUTCOME_ACCEPTED);
+    CHECK(takes_at(&shard, 1, "b", BELOW, 6) == KRBRELAY_OUTCOME_REPEAT);
+    IS(krbrelay_shard_pass(&shard, 8));
+    CHECK(krbrelay_shard_is_full(&shard, 1999) == 0 && krbrelay_shard_is_full(&shard, 2000) == 1);
+    CHECK(pays(&shard, 1500, 0, 0, 0));
+    IS(krbrelay_shard_session(&shard, 0, &end));
+    CHECK(end.stored.number == 7 && end.drafted.number == 8 && end.is_open == 1);
+    IS(krbrelay_shard_stored(&shard));
+    CHECK(reads_to(&shard, 7, 8) && finds(&shard, 7, 8, KRBRELAY_FOUND_SAME));
+    CHECK(pays(&shard, 1500, 0, 8, KRBRELAY_ASKS_NOTHING) && pays(&shard, 1500, 1, 9, KRBRELAY_ASKS_NOTHING)
+          && pays(&shard, 1500, 0, 0, 0));
+    IS(krbrelay_shard_unpaid(&shard, 1, KRBRELAY_ASKS_NOTHING));
+    CHECK(krbrelay_shard_next_time(&shard) == 1700 && pays(&shard, 1699, 0, 0, 0)
+          && pays(&shard, 1700, 1, 9, KRBRELAY_ASKS_NOTHING));
+    krbrelay_shard_free(&shard);
+    CHECK(shard.count == 0 && krbrelay_shard_next_time(&shard) == UINT64_MAX && krbrelay_shard_is_full(&shard, 9000) == 0);
+}
+
+/* After a text that fails, frames up to its own are taken alone; a fault of the store has a pause that grows, after which all
+ * is loaded. What a command did before is stored. */
+static void shard_fails(void)
+{
+    struct krbrelay_shard shard = KRBRELAY_INIT;
+    struct krbrelay_receiving end;
+    shard_with_two(&shard, 0, 0);
+    CHECK(begins(&shard, 5, 1000, 0) && takes_at(&shard, 0, "a", ACCEPTED, 5) == KRBRELAY_OUTCOME_ACCEPTED);
+    CHECK(fails(&shard, KRBRELAY_FAILURE_REFUSED, 6, KRBRELAY_THEN_AGAIN) && turns(&shard, 1000, KRBRELAY_TURN_READ, 0));
+    IS(krbrelay_shard_session(&shard, 0, &end));
+    CHECK(end.drafted.number == 7 && end.is_open == 0 && reads_to(&shard, 7, 4));
+    CHECK(begins(&shard, 6, 1000, 1) && takes_at(&shard, 0, "a", ACCEPTED, 6) == KRBRELAY_OUTCOME_ACCEPTED
+          && krbrelay_shard_is_full(&shard, 1000) == 1);
+    CHECK(fails(&shard, KRBRELAY_FAILURE_LATER, 6, KRBRELAY_THEN_WAIT) && turns(&shard, 1199, KRBRELAY_TURN_WAIT, 1200)
+          && krbrelay_shard_next_time(&shard) == 1200 && turns(&shard, 1200, KRBRELAY_TURN_READ, 0));
+    CHECK(begins(&shard, 7, 1200, 0) && fails(&shard, KRBRELAY_FAILURE_FENCED, 7, KRBRELAY_THEN_AGAIN)
+          && turns(&shard, 1200, KRBRELAY_TURN_LOAD, 0));
+    CHECK(fails(&shard, KRBRELAY_FAILURE_FAULT, 4, KRBRELAY_THEN_WAIT) && turns(&shard, 1599, KRBRELAY_TURN_WAIT, 1600)
+          && turns(&shard, 1600, KRBRELAY_TURN_LOAD, 0));
+    shard_with_two(&shard, 1, 1);
+    CHECK(begins(&shard, 5, 1000, 0) && fails(&shard, KRBRELAY_FAILURE_REFUSED, 5, KRBRELAY_THEN_AGAIN));
+    CHECK(begins(&shard, 5, 1000, 1) && takes_at(&shard, 1, "b", BELOW, 5) == KRBRELAY_OUTCOME_REPEAT
+          && fails(&shard, KRBRELAY_FAILURE_LATER, 6, KRBRELAY_THEN_STORE));
+    IS(krbrelay_shard_stored(&shard));
+    CHECK(reads_to(&shard, 7, 5));
+    krbrelay_shard_free(&shard);
+}
+
+/* Another list, a store that went on or back; and what is refused. */
+static void shard_refuses(void)
+{
+    static const struct krbrelay_seen reserved = { .accepted = 1, .reserved = 1 };
+    static const struct krbrelay_row last = { .number = UINT64_MAX };
+    struct krbrelay_shard shard = KRBRELAY_INIT;
+    struct krbrelay_receiving end;
+    uint32_t told = 99;
+    IS_NOT(krbrelay_shard_loaded(&shard, 7, 4));
+    IS_NOT(krbrelay_shard_stored(&shard));
+    IS_NOT(krbrelay_shard_forget(&shard));
+    IS_NOT(krbrelay_shard_add(&shard, &last, &told));
+    shard_with_two(&shard, 0, 0);
+    IS_NOT(krbrelay_shard_pass(&shard, 5));
+    IS_NOT(krbrelay_shard_session(&shard, 2, &end));
+    IS_NOT(krbrelay_shard_unpaid(&shard, 2, KRBRELAY_ASKS_NOTHING));
+    IS_NOT(krbrelay_shard_unpaid(&shard, 0, 0));
+    IS_NOT(krbrelay_shard_failed(&shard, 5, 5, &told));
+    IS_NOT(krbrelay_shard_failed(&shard, 0, 5, &told));
+    CHECK(takes_at(&shard, 0, "a", ACCEPTED, 5) == 99 && begins(&shard, 5, 1000, 0) && !begins(&shard, 5, 1000, 0));
+    IS(krbrelay_shard_add(&shard, &last, &told));
+    CHECK(told == 2 && takes_at(&shard, 2, "a", ACCEPTED, 5) == 99 && takes_at(&shard, 3, "a", ACCEPTED, 5) == 99
+          && takes_at(&shard, 0, "a", reserved, 5) == 99);
+    CHECK(finds(&shard, 7, 3, KRBRELAY_FOUND_BEHIND) && finds(&shard, 8, 9, KRBRELAY_FOUND_BEHIND)
+          && finds(&shard, 7, 5, KRBRELAY_FOUND_AHEAD) && turns(&shard, 1000, KRBRELAY_TURN_LOAD, 0));
+    IS(krbrelay_shard_loaded(&shard, 7, 5));
+    IS(krbrelay_shard_listed(&shard, 8, 3, &told));
+    CHECK(told == 1 && reads_to(&shard, 8, 0) && turns(&shard, 1000, KRBRELAY_TURN_READ, 0));
+    IS(krbrelay_shard_forget(&shard));
+    CHECK(turns(&shard, 1000, KRBRELAY_TURN_LOAD, 0));
+    IS_NOT(krbrelay_shard_session(&shard, 0, &end));
+    krbrelay_shard_free(&shard);
+}
+
 static void openings(void)
 {
     const struct krbrelay_head none = KRBRELAY_INIT;
@@ -534,6 +688,9 @@ int main(int argc, char **argv)
     RUN(receives());
     RUN(no_receivers());
     RUN(readings());
+    RUN(shard_stores());
+    RUN(shard_fails());
+    RUN(shard_refuses());
     RUN(openings());
     RUN(many(argc > 1 ? strtoul(argv[1], NULL, 10) : 100000));
     return check_status("engine");

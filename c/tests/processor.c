@@ -127,6 +127,7 @@ static void sending_is_refused(struct krbrelay_sending *sending)
     static const uint8_t own[KRBRELAY_HISTORY_SIZE];
     static const struct krbrelay_stored row;
     struct krbrelay_lane lane = KRBRELAY_INIT;
+    struct krbrelay_shard shard = KRBRELAY_INIT;
     struct krbrelay_command command;
     uint64_t under_way = 0, room = 0;
     uint32_t told = 0, stands = 0;
@@ -141,6 +142,7 @@ static void sending_is_refused(struct krbrelay_sending *sending)
     CHECK(krbrelay_judge(&head, &opening, &told) == KRBRELAY_PROCESSOR);
     CHECK(krbrelay_lane_add(&lane, &row, 0, &told) == KRBRELAY_PROCESSOR);
     CHECK(krbrelay_lane_listed(&lane, 1, 7) == KRBRELAY_PROCESSOR && lane.count == 0);
+    CHECK(krbrelay_shard_new(&shard, 0, 0) == KRBRELAY_PROCESSOR && shard.count == 0);
 }
 
 /* The ends of a carrier: one call of each kind. */

@@ -200,6 +200,14 @@ enum krbrelay_answer krbrelay_lane_listed(struct krbrelay_lane *handle, uint32_t
     return krbrelay_proved_lane_listed(handle, has_list, list);
 }
 
+enum krbrelay_answer krbrelay_shard_new(struct krbrelay_shard *handle, uint32_t are_outside,
+                                        uint32_t put_aside)
+{
+    if (!krbrelay_is_supported())
+        return KRBRELAY_PROCESSOR;
+    return krbrelay_proved_shard_new(handle, are_outside, put_aside);
+}
+
 enum krbrelay_answer krbrelay_judge(const struct krbrelay_head *head,
                                     const struct krbrelay_opening *opening, uint32_t *judged)
 {

@@ -54,6 +54,8 @@ enum krbrelay_answer krbrelay_proved_lane_add(struct krbrelay_lane *handle,
                                               uint32_t *place);
 enum krbrelay_answer krbrelay_proved_lane_listed(struct krbrelay_lane *handle, uint32_t has_list,
                                                  uint64_t list);
+enum krbrelay_answer krbrelay_proved_shard_new(struct krbrelay_shard *handle, uint32_t are_outside,
+                                               uint32_t put_aside);
 enum krbrelay_answer krbrelay_proved_judge(const struct krbrelay_head *head,
                                            const struct krbrelay_opening *opening,
                                            uint32_t *judged);

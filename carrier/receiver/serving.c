@@ -8,8 +8,6 @@
 #include <pthread.h>
 #include <stdlib.h>
 
-enum { SHORTEST = 200, LONGEST = 5000 }; /* milliseconds */
-
 #define MILLISECOND UINT64_C(1000000) /* nanoseconds */
 #define SECOND (1000 * MILLISECOND)
 #define UNANSWERED (10 * SECOND)
@@ -61,17 +59,6 @@ static int has_to_end(const struct served *it)
     return is_ending() || is_set(&it->is_left);
 }
 
-/* The store is away, or the effect of a text can't be had: it rests for longer each time. */
-static void rest_longer(struct served *it, int why)
-{
-    if (why == SHARD_AWAY)
-        log_fact(LEVEL_WARNING, "store_away", field_number("shard", it->shard.number),
-                 field_number("milliseconds", it->pause),
-                 field_text("text", "it is opened again then, and the shard goes on where it was"));
-    it->rests = milliseconds() + it->pause;
-    it->pause = 2 * it->pause < LONGEST ? 2 * it->pause : LONGEST;
-}
-
 static void fail(void)
 {
     set(&serving.failed);
@@ -103,8 +90,7 @@ static int is_closed(const struct shard *shard)
 
 void serving_prepare(struct served *it, unsigned shard)
 {
-    *it = (struct served){ .shard = { .options = serving.options, .number = shard }, .pause = SHORTEST,
-                           .answered = nanoseconds() };
+    *it = (struct served){ .shard = { .options = serving.options, .number = shard }, .answered = nanoseconds() };
 }
 
 int serving_open(struct served *it)
@@ -124,10 +110,6 @@ static void step(struct served *it, uint64_t *until)
     int count = shard_step(shard, until);
     if (shard->answered != 0)
         __atomic_store_n(&it->answered, shard->answered, __ATOMIC_SEQ_CST);
-    if (count < 0)
-        rest_longer(it, count);
-    else if (shard->is_loaded)
-        it->pause = SHORTEST;
     if (shard->counts.accepted == 0 && count == 0)
         it->began = nanoseconds();
     it->is_unshown |= count != 0 || !shard->is_loaded || shard->counts.receipts != receipts;
@@ -141,12 +123,9 @@ int serving_turn(struct served *it, uint64_t *until)
         return 1;
     *until = 0;
     use_sessions(&it->shard);
-    if (milliseconds() >= it->rests)
-        step(it, until);
+    step(it, until);
     report(it);
     show = it->is_unshown ? (it->reported + SECOND) / MILLISECOND + 1 : UINT64_MAX;
-    if (milliseconds() < it->rests)
-        *until = it->rests;
     if (show < *until)
         *until = show;
     return 0;

@@ -55,8 +55,6 @@ struct served {
     struct shard_counts before; /* what was reported last, */
     uint64_t began, reported;   /* and when, in nanoseconds; when it began to work */
     int is_unshown;             /* something has happened since */
-    unsigned pause;             /* milliseconds after which a store that is away is opened again: */
-    uint64_t rests;             /* nothing is done before this moment */
     uint64_t answered;          /* when the carrier answered last: its owner reads this, */
     int is_left;                /* and sets this: it is to end */
 };

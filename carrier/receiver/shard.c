@@ -98,7 +98,7 @@ static void tell_early(struct shard *s, const struct receiving *of, const struct
 {
     log_fact(LEVEL_WARNING, "frame_early", field_text("session", it->session),
              field_number("shard", s->number), field_number("offset", it->offset),
-             field_number("number", number), field_number("demanded", of->end.drafted.number),
+             field_number("number", number), field_number("demanded", of->drafted.number),
              field_text("text", "it has to come again after the demanded one, which is asked for"));
 }
 
@@ -115,6 +115,21 @@ static void tell_refused(struct shard *s, const struct carried *it, enum krbrela
                  field_number("shard", s->number),
                  field_text("text", "until a frame comes in time: are the clocks right, and is"
                                     " --skew above the time that the carrier keeps frames?"));
+}
+
+/* The transaction has a frame of a session, of which this is known: 0 and what it is taken for, or -1 after a fault. */
+static int take_seen(struct shard *s, struct receiving *of, const struct carried *it, const struct krbrelay_seen *seen,
+                     uint32_t *outcome)
+{
+    struct krbrelay_receiving end;
+    enum krbrelay_answer answer = krbrelay_shard_take(&s->ends, of->place, it->frame, it->len, seen, it->offset, outcome);
+    if (answer == KRBRELAY_OK)
+        answer = krbrelay_shard_session(&s->ends, of->place, &end);
+    if (answer == KRBRELAY_OK)
+        of->drafted = end.drafted;
+    else
+        report_answer("frame_unopened", it->session, of->drafted.number, answer);
+    return answer == KRBRELAY_OK ? 0 : -1;
 }
 
 /* A frame that wasn't accepted, by what it was taken for. */
@@ -159,7 +174,7 @@ static int take_refusal(struct shard *s, struct receiving *of, const struct carr
     uint32_t outcome = 0;
     int opens;
     if (!krbrelay_is_refusal(answer)) {
-        report_answer("frame_unopened", it->session, of->end.drafted.number, answer);
+        report_answer("frame_unopened", it->session, of->drafted.number, answer);
         return -1;
     }
     opens = find_number(s, of, it, answer, &number);
@@ -167,7 +182,7 @@ static int take_refusal(struct shard *s, struct receiving *of, const struct carr
         return -1; /* the frames are read again */
     if (opens)
         seen = (struct krbrelay_seen){ .opened = number, .has_opened = 1 };
-    if (krbrelay_receiving_take(&of->end, it->frame, it->len, &seen, &outcome) != KRBRELAY_OK)
+    if (take_seen(s, of, it, &seen, &outcome) != 0)
         return -1;
     note_unaccepted(s, of, it, &seen, outcome, answer);
     return 0;
@@ -239,7 +254,7 @@ static enum effect_answer take_effects(struct shard *s, const struct receiving *
                                        const uint8_t *bytes, int is_alone)
 {
     struct arrived it = { of->of.name, of->opened != NULL ? of->opened->client : "",
-                          of->opened != NULL ? of->opened->stream : "", of->end.drafted.number, 0, bytes, taken->size };
+                          of->opened != NULL ? of->opened->stream : "", of->drafted.number, 0, bytes, taken->size };
     unsigned answered = answered_parts(s, &it);
     size_t at = 0;
     enum effect_answer answer = EFFECT_DONE;
@@ -270,9 +285,8 @@ static enum effect_answer take_accepted(struct shard *s, struct receiving *of, c
         list_add(&s->standing, of, &of->is_standing);
     if (answer != EFFECT_DONE)
         return answer;
-    if (krbrelay_receiving_take(&of->end, it->frame, it->len, &seen, &outcome) != KRBRELAY_OK
-        || outcome != KRBRELAY_OUTCOME_ACCEPTED)
-        return EFFECT_FAULT; /* never: what the store has, and what was taken since, is where both are */
+    if (take_seen(s, of, it, &seen, &outcome) != 0 || outcome != KRBRELAY_OUTCOME_ACCEPTED)
+        return EFFECT_FAULT; /* what the store has, and what was taken since, is where both are */
     of->now.at = it->offset;
     of->now.missed = MISSED_NOTHING;
     of->has_opened = 1;
@@ -294,10 +308,10 @@ static int make_receiver(const struct shard *s, struct receiving *it)
     if (it->is_made)
         return 0;
     answer = krbrelay_receiver_new(&it->receiver, of->etype, of->key, of->key_len, &expect,
-                                   it->end.drafted.number, it->end.drafted.closed);
+                                   it->drafted.number, it->drafted.closed);
     it->is_made = answer == KRBRELAY_OK;
     if (!it->is_made)
-        report_answer("receiver_unmade", of->name, it->end.drafted.number, answer);
+        report_answer("receiver_unmade", of->name, it->drafted.number, answer);
     return it->is_made ? 0 : -1;
 }
 
@@ -307,7 +321,7 @@ static int take_opening(struct shard *s, struct receiving *of, const struct carr
 {
     const struct krbrelay_seen seen = { .has_opened = 1, .opened = of->of.first - 1 };
     uint32_t outcome = 0;
-    if (krbrelay_receiving_take(&of->end, it->frame, it->len, &seen, &outcome) != KRBRELAY_OK)
+    if (take_seen(s, of, it, &seen, &outcome) != 0)
         return -1;
     if (it->offset != of->opened_at) {
         s->counts.repeats++;
@@ -336,7 +350,7 @@ static int take_before_turn(struct shard *s, struct receiving *of, const struct 
              field_number("shard", s->number), field_number("offset", it->offset),
              field_text("before", of->opened->before),
              field_text("text", "it has to come again after the close of the session before"));
-    if (krbrelay_receiving_take(&of->end, it->frame, it->len, &seen, &outcome) != KRBRELAY_OK)
+    if (take_seen(s, of, it, &seen, &outcome) != 0)
         return -1;
     note_missed(s, of, MISSED_EARLY);
     list_add(&s->standing, of, &of->is_standing);
@@ -346,7 +360,7 @@ static int take_before_turn(struct shard *s, struct receiving *of, const struct 
 /* Whether nothing of a session by a ticket took effect, and its turn hasn't come. */
 static int is_before_turn(struct shard *s, const struct receiving *of)
 {
-    return of->opened != NULL && of->end.drafted.number == of->of.first
+    return of->opened != NULL && of->drafted.number == of->of.first
            && shard_judge(s, of) != KRBRELAY_JUDGED_BEGINS;
 }
 
@@ -408,7 +422,6 @@ static enum effect_answer take(struct shard *s, struct receiving *of, int place,
     const struct krbrelay_taken *taken;
     enum krbrelay_answer answer;
     int done;
-    list_add(&s->taken, of, &of->is_taken);
     if (is_opening_of(of, it))
         return fault_unless(take_opening(s, of, it));
     if (is_before_turn(s, of))
@@ -432,7 +445,7 @@ enum effect_answer shard_take(struct shard *s, int place, int end, int is_alone)
     if (s->of_frames[place] != NULL)
         return take(s, s->of_frames[place], place, end, is_alone);
     take_unknown(s, &s->frames[place]);
-    return EFFECT_DONE;
+    return krbrelay_shard_pass(&s->ends, s->frames[place].offset) == KRBRELAY_OK ? EFFECT_DONE : EFFECT_FAULT;
 }
 
 void shard_leave(struct shard *s, int place)
@@ -444,12 +457,19 @@ void shard_leave(struct shard *s, int place)
 
 /* ---- Steps */
 
+/* What the store has is read with the next step. Before there is a shard nothing is loaded. */
+static void load_again(struct shard *s)
+{
+    if (krbrelay_shard_forget(&s->ends) == KRBRELAY_OK)
+        s->is_loaded = 0;
+}
+
 static void close_store(struct shard *s)
 {
     if (s->store != NULL)
         s->store->close(s->store);
     s->store = NULL;
-    s->is_loaded = 0;
+    load_again(s);
 }
 
 /* It may be another store when it is there again, as a standby that is behind: what is known of sessions is forgotten. */
@@ -459,29 +479,43 @@ static void lose_store(struct shard *s)
     shard_forget(s);
 }
 
-/* Loads what isn't loaded: 1 if that was done, 0 if the carrier isn't ready, -1 after a fault of
- * the store. */
-static int be_loaded(struct shard *s)
+/* The store has a fault: it is opened again after a pause. */
+static void tell_away(struct shard *s)
 {
-    int answer = s->is_loaded ? 0 : shard_load(s);
-    if (answer == 1)
+    uint64_t now = milliseconds(), at = now;
+    uint32_t turn = KRBRELAY_TURN_LOAD;
+    if (krbrelay_shard_turn(&s->ends, now, &turn, &at) == KRBRELAY_OK && turn == KRBRELAY_TURN_WAIT)
+        log_fact(LEVEL_WARNING, "store_away", field_number("shard", s->number), field_number("milliseconds", at - now),
+                 field_text("text", "it is opened again then, and the shard goes on where it was"));
+}
+
+/* Loads what isn't loaded: 1 if that was done, 0 if the carrier isn't ready, -1 after a fault of the store. */
+static int load(struct shard *s)
+{
+    uint32_t then = KRBRELAY_THEN_WAIT;
+    int answer = shard_load(s);
+    if (answer == 0)
+        return 1;
+    if (answer == 1) {
         s->rests = milliseconds() + WAIT;
-    else if (answer < 0)
-        lose_store(s);
-    return answer == 0 ? 1 : answer > 0 ? 0 : SHARD_AWAY;
+        return 0;
+    }
+    if (krbrelay_shard_failed(&s->ends, KRBRELAY_FAILURE_FAULT, s->reading.read.offset, &then) != KRBRELAY_OK)
+        s->rests = milliseconds() + WAIT; /* never: a shard is there */
+    lose_store(s);
+    tell_away(s);
+    return -1;
 }
 
 /* Fetches frames for the next transactions: how many there are. */
 static int fetch(struct shard *s)
 {
-    struct krbrelay_reading judged = s->reading;
-    uint64_t began = nanoseconds(), last;
-    uint32_t read = KRBRELAY_READ_NOTHING;
+    uint64_t began = nanoseconds();
     int count = s->carrier->fetch(s->carrier, s->frames, s->options->batch, s->carrier->file == NULL ? WAIT : 0);
     if (count >= 0)
         s->answered = nanoseconds();
     if (count == CARRIER_CHANGED)
-        s->is_loaded = 0;
+        load_again(s);
     else if (count < 0)
         s->rests = milliseconds() + RETRY;
     if (count <= 0)
@@ -489,10 +523,8 @@ static int fetch(struct shard *s)
     s->looked = nanoseconds();
     s->counts.fetching += s->looked - began;
     s->counts.frames += (unsigned long)count;
-    last = s->frames[count - 1].offset;
-    if (krbrelay_reading_frames(&judged, judged.read.list, last, last - judged.read.offset, &read)
-            != KRBRELAY_OK || read != KRBRELAY_READ_TAKE) {
-        s->is_loaded = 0;
+    if (s->frames[0].offset <= s->reading.read.offset) {
+        load_again(s); /* they aren't what follows */
         return 0;
     }
     s->next = 0;
@@ -500,24 +532,24 @@ static int fetch(struct shard *s)
     return count;
 }
 
-/* Nothing has come for a while: whether the list is still the one that is read, and wasn't cut off, as where nodes
- * have lost what they had. Else it is loaded again, and read from where krb_engine says. */
+/* Nothing has come for a while: whether the store has what is known of it, and the list is still the one that is read, and
+ * wasn't cut off, as where nodes have lost what they had. Else it is loaded again, and read from where krb_receiver says. */
 static void look_at_list(struct shard *s)
 {
-    struct krbrelay_reading now = s->reading;
     uint64_t list = 0, end = 0;
-    uint32_t read = KRBRELAY_READ_NOTHING;
+    uint32_t is_elsewhere = 0, found = KRBRELAY_FOUND_SAME;
     struct reached reached;
     s->looked = nanoseconds();
     if (store_reached(s->store, s->number, &reached) != 0) {
         lose_store(s);
         return;
     }
-    if (reached.incarnation != s->reading.stored.list || reached.offset != s->reading.stored.offset)
-        s->is_loaded = 0; /* the store has gone back, or another receiver went on */
+    if (krbrelay_shard_found(&s->ends, reached.incarnation, reached.offset, &found) != KRBRELAY_OK
+        || found != KRBRELAY_FOUND_SAME)
+        load_again(s);
     if (s->carrier->incarnation(s->carrier, s->number, &list, &end) == 0 && list != 0
-        && krbrelay_reading_frames(&now, list, end, 0, &read) == KRBRELAY_OK && read == KRBRELAY_READ_ELSEWHERE)
-        s->is_loaded = 0;
+        && krbrelay_shard_listed(&s->ends, list, end, &is_elsewhere) == KRBRELAY_OK && is_elsewhere)
+        load_again(s);
 }
 
 /* Each second: a store whose file was replaced is opened again, so that nothing is stored where nobody looks. */
@@ -530,71 +562,96 @@ static void look_at_store(struct shard *s)
         lose_store(s);
 }
 
-/* Forgets all sessions once so many have ended that they take as much memory as all others, and owe nothing: those
+/* Forgets all sessions once so many have ended that they take as much memory as all others, and no receipt is owed: those
  * of which frames come are loaded again. */
 static void forget_ended(struct shard *s)
 {
-    if (s->ended < FORGOTTEN || 2 * s->ended < s->count || s->owing.count > 0)
+    if (s->ended < FORGOTTEN || 2 * s->ended < s->count || krbrelay_shard_next_time(&s->ends) != UINT64_MAX)
         return;
     log_fact(LEVEL_INFO, "sessions_forgotten", field_number("shard", s->number), field_number("ended", s->ended),
              field_number("others", s->count - s->ended));
     shard_forget(s);
-    s->is_loaded = 0;
+    load_again(s);
 }
 
 /* What follows from how a transaction of so many frames ended: as shard_step. */
-static int end_step(struct shard *s, enum transaction ended, int count)
+static int end_step(struct shard *s, struct transacted ended, int count)
 {
-    if (ended == TRANSACTION_STORED) {
+    if (ended.failure == SHARD_DONE) {
         shard_pay(s);
         return count;
     }
-    /* All is read again from where the store is: at once where a text is to be taken alone, after a drawn while where
-     * another receiver was faster. */
-    s->is_loaded = 0;
-    s->counts.fenced += ended == TRANSACTION_FENCED;
-    if (ended == TRANSACTION_FAULT)
-        lose_store(s);
-    else if (ended != TRANSACTION_FENCED && !effects_are_outside())
-        close_store(s); /* a connection whose statement failed isn't used any more */
-    if (ended == TRANSACTION_FAULT || ended == TRANSACTION_FENCED)
+    /* All is read again from where the store is: after a drawn while where another receiver was faster. */
+    load_again(s);
+    s->counts.fenced += ended.failure == KRBRELAY_FAILURE_FENCED;
+    if (ended.failure == KRBRELAY_FAILURE_FENCED)
         s->rests = milliseconds() + 50 + (unsigned)rand() % 200;
-    if (ended == TRANSACTION_HELD)
-        return SHARD_HELD;
-    return ended == TRANSACTION_FAULT ? SHARD_AWAY : count;
+    else if (ended.failure == KRBRELAY_FAILURE_FAULT)
+        lose_store(s);
+    else if (!effects_are_outside())
+        close_store(s); /* a connection whose statement failed isn't used any more */
+    if (ended.failure == KRBRELAY_FAILURE_FAULT)
+        tell_away(s);
+    return ended.then == KRBRELAY_THEN_WAIT ? -1 : count;
 }
 
-/* One step, unless it rests: as shard_step. */
-static int step(struct shard *s)
+/* Takes what has come: as shard_step. */
+static int take_some(struct shard *s)
 {
-    int count, answer;
-    forget_ended(s);
-    look_at_store(s);
-    answer = be_loaded(s);
-    if (answer != 1)
-        return answer;
-    shard_pay(s);
-    count = s->next < s->fetched ? s->fetched - s->next : fetch(s);
+    int count = s->next < s->fetched ? s->fetched - s->next : fetch(s);
     if (count == 0 && s->is_loaded && nanoseconds() - s->looked > QUIET)
         look_at_list(s);
     return count == 0 ? 0 : end_step(s, shard_transact(s), count);
 }
 
-/* When there is something to do after a step in which nothing came. */
-static uint64_t next_time(const struct shard *s)
+/* One step, unless it rests: as shard_step. */
+static int step(struct shard *s)
 {
-    uint64_t look = (s->looked + QUIET) / MILLISECOND + 1, receipt = shard_next_receipt(s);
+    uint32_t turn = KRBRELAY_TURN_LOAD;
+    uint64_t at = 0;
+    int answer;
+    forget_ended(s);
+    look_at_store(s);
+    shard_pay(s);
+    if (krbrelay_shard_turn(&s->ends, milliseconds(), &turn, &at) != KRBRELAY_OK)
+        return -1; /* never: shard_start made the shard */
+    s->is_loaded = turn == KRBRELAY_TURN_READ;
+    if (turn == KRBRELAY_TURN_WAIT)
+        s->rests = at;
+    if (turn == KRBRELAY_TURN_LOAD) {
+        answer = load(s);
+        if (answer != 1)
+            return answer;
+    }
+    return turn == KRBRELAY_TURN_WAIT ? 0 : take_some(s);
+}
+
+/* When there is something to do after a step in which nothing came. */
+static uint64_t next_time(struct shard *s)
+{
+    uint64_t look = (s->looked + QUIET) / MILLISECOND + 1, receipt = krbrelay_shard_next_time(&s->ends);
     return look < receipt ? look : receipt;
+}
+
+/* When it rests no longer, or a receipt is due. */
+static uint64_t rest_ends(struct shard *s)
+{
+    uint64_t receipt = krbrelay_shard_next_time(&s->ends);
+    return receipt < s->rests ? receipt : s->rests;
 }
 
 int shard_step(struct shard *s, uint64_t *until)
 {
     uint64_t began = milliseconds();
-    int count = began < s->rests ? 0 : step(s);
+    int count = 0;
+    if (began < s->rests)
+        shard_pay(s);
+    else
+        count = step(s);
     if (count > 0 && count < FEW && s->is_loaded && s->carrier->file != NULL && s->rests < began + GATHERING)
         s->rests = began + GATHERING;
     if (milliseconds() < s->rests)
-        *until = s->rests;
+        *until = rest_ends(s);
     else
         *until = count != 0 || !s->is_loaded || s->carrier->file == NULL ? 0 : next_time(s);
     return count;
@@ -611,6 +668,8 @@ int shard_start(struct shard *s)
         && (s->kerberos = kerberos_open(&s->options->kerberos,
                                         s->options->kerberos.service)) == NULL)
         return -1;
+    if (krbrelay_shard_new(&s->ends, (uint32_t)effects_are_outside(), (uint32_t)effects_may_put_aside()) != KRBRELAY_OK)
+        return -1;
     s->carrier = carrier_open(&s->options->carrier);
     s->frames = calloc(s->options->batch, sizeof *s->frames);
     s->of_frames = calloc(s->options->batch, sizeof *s->of_frames);
@@ -623,7 +682,7 @@ void shard_use(struct shard *s, struct sessions *sessions)
     shard_forget(s);
     sessions_forget(s->sessions);
     s->sessions = sessions_share(sessions);
-    s->is_loaded = 0;
+    load_again(s);
 }
 
 void shard_stop(struct shard *s)
@@ -631,6 +690,7 @@ void shard_stop(struct shard *s)
     shard_forget(s);
     sessions_forget(s->sessions);
     close_store(s);
+    krbrelay_shard_free(&s->ends);
     if (s->carrier != NULL)
         s->carrier->close(s->carrier);
     if (s->kerberos != NULL)

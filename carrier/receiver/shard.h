@@ -3,8 +3,11 @@
  * transaction has the effects of their texts, what the sessions demand next, and the new offset.
  * The offset is the acknowledgement of the list: whoever continues begins after it.
  *
- * It reads forward only, and never goes back to what it has refused: krb_engine (docs/ENGINE.md) says of each
- * frame what it is taken for, and which receipt is owed. A session whose demanded frame is missing, or was
+ * krb_receiver (krbrelay_shard_new) decides: what each frame is taken for, up to where the list is read, which frames a
+ * transaction takes, what happens after a failure and when, and which receipt leaves. These files ask the store, the
+ * carrier and effects for what it says.
+ *
+ * It reads forward only, and never goes back to what it has refused. A session whose demanded frame is missing, or was
  * refused for a reason that may pass (this receiver's clock, the skew, addresses), asks for it by its receipt.
  * Of what opens under no key here, and of names that have no line, nothing is said: their senders hear of no
  * receipt, and send them again.
@@ -43,14 +46,13 @@ struct receiving {
     uint64_t opened_at;            /* where its opening is, if this transaction takes it; or 0 */
     struct krbrelay_receiver receiver; /* made with the first frame after loading */
     struct krbrelay_opener opener; /* looks at what was refused; made when it is first needed */
-    struct krbrelay_receiving end; /* what is stored and drafted, and which receipt is owed: krb_engine's */
+    uint32_t place;                /* among the sessions of krb_receiver's shard, */
+    struct krbrelay_row drafted;   /* of which this is what the transaction under way would store */
     struct demand stored, now;     /* what the store has, and what it shall have, */
     unsigned long turn;            /* as of this turn of the shard's loading */
     int is_made;                   /* the receiver is what is stored, and what followed */
     int has_opened;                /* a frame opened: the key is right */
     int is_changed;                /* it is in the list of those that this transaction moves, */
-    int is_taken;                  /* of those of which a frame was taken in it, */
-    int is_owing;                  /* of those that owe a receipt, */
     int is_standing;               /* and of those that stand: the last frame wasn't accepted */
 };
 
@@ -96,24 +98,24 @@ struct shard {
     struct store *store;           /* NULL: it has to be opened (again) */
     struct refusals *refusals;     /* texts that an effect refused (effects.h), or NULL */
     struct carrier *carrier;
+    struct krbrelay_shard ends;    /* krb_receiver's: all sessions' ends, the transaction, pauses and receipts */
     void *receivings;              /* tsearch's tree of a struct receiving for each session */
     size_t count;                  /* so many there are, and these lists have room for: */
-    struct list changed, taken, owing, standing;
+    struct list members;           /* those that `ends` has, by their places: whoever forgets them has it loaded again, */
+    struct list changed, standing;
     struct drafted drafted;        /* what this transaction has done, */
     int is_begun;                  /* whether the store's is open, */
     uint64_t moved_to;             /* up to which offset it moves the shard, */
     int place;                     /* and which frame it is at */
     int is_last;                   /* it ends with this frame */
-    struct reached alone;          /* frames of this list up to this offset are taken alone */
     struct done_parts done_parts;
-    unsigned refused;              /* refusals since something was stored */
     size_t ended;                  /* so many of them are closed */
     struct list asked;             /* those of which the store is asked, */
     struct list news;              /* and those whose openings this transaction takes */
     struct carried *frames;        /* those of the last fetch, */
     int next, fetched;             /* of which those from `next` on weren't taken yet */
     struct receiving **of_frames;  /* of each frame the session, or NULL */
-    struct krbrelay_reading reading; /* how far it was read, as stored and as taken: krb_engine's */
+    struct krbrelay_reading reading; /* how far it was read, as `ends` said last */
     int has_wrapped;               /* keys that are stored are wrapped under the newest one */
     char unknown[CARRIER_NAME];    /* the last name that the store was asked for in vain */
     struct krbrelay_moment moment; /* when this transaction's frames are taken */
@@ -121,9 +123,9 @@ struct shard {
     uint64_t answered;             /* when the carrier answered last, */
     uint64_t looked;               /* when a frame came last, or the list was looked at */
     uint64_t looked_at_store, shown; /* when that was done last */
-    uint64_t rests;                /* nothing is done before this moment, in milliseconds */
+    uint64_t rests;                /* nothing but receipts before this moment, in milliseconds */
     unsigned long turn;            /* so often it was loaded */
-    int is_loaded;
+    int is_loaded;                 /* what is read follows what is stored, as `ends` said last */
     size_t open;                   /* if it is asked for, so many sessions aren't closed */
     uint8_t *bytes;                /* of the records of these frames, and of a frame that is looked at */
     struct together together;
@@ -137,11 +139,10 @@ int shard_start(struct shard *shard);
  * ends. */
 void shard_use(struct shard *shard, struct sessions *sessions);
 
-/* Fetches frames, and takes them in a transaction, or some of them. Answers how many there were; SHARD_AWAY after a fault
- * of the store, which the next step opens again; or SHARD_HELD: the effect of a text can't be had now, as the log says.
- * The next step is due at *until, in milliseconds of the clock that only rises, or as soon as frames come. It waits for
- * nothing, but for the store, for effects, and in calls of a carrier that wait (carrier.h). */
-enum { SHARD_AWAY = -1, SHARD_HELD = -2 };
+/* Fetches frames, and takes them in a transaction, or some of them. Answers how many there were; or -1, if all is tried again
+ * after a pause: after a fault of the store, which is opened again then, or where the effect of a text can't be had now,
+ * as the log says. The next step is due at *until, in milliseconds of the clock that only rises, or as soon as frames
+ * come. It waits for nothing, but for the store, for effects, and in calls of a carrier that wait (carrier.h). */
 int shard_step(struct shard *shard, uint64_t *until);
 
 void shard_stop(struct shard *shard);
@@ -172,12 +173,13 @@ void shard_leave(struct shard *shard, int place);
 
 /* ---- shard_transaction.c */
 
-/* How a transaction ended: it is stored; another receiver was faster; nothing is stored, and all is read again at once; the
- * same after a pause, since the effect of a text can't be had now; after a fault of the store. */
-enum transaction { TRANSACTION_STORED, TRANSACTION_FENCED, TRANSACTION_AGAIN, TRANSACTION_HELD, TRANSACTION_FAULT };
+/* How a transaction ended: it is stored (SHARD_DONE), or failed (KRBRELAY_FAILURE_*), and what krb_receiver said of that
+ * (KRBRELAY_THEN_*). */
+enum { SHARD_DONE = 0 };
+struct transacted { uint32_t failure, then; };
 
 /* One transaction of frames that were fetched. */
-enum transaction shard_transact(struct shard *shard);
+struct transacted shard_transact(struct shard *shard);
 
 /* Opens the store's transaction, unless it is open: 0, or -1 after a fault. */
 int shard_begin_late(struct shard *shard);
@@ -187,6 +189,9 @@ int shard_begin_late(struct shard *shard);
 /* Makes all what store and carrier have: 0, 1 if the carrier doesn't answer or has no such shard
  * yet, -1 after a fault of the store. */
 int shard_load(struct shard *shard);
+
+/* Has `ends` say how far the shard was read: 0, or -1. */
+int shard_look(struct shard *shard);
 
 /* Loads the sessions of these of the frames that were fetched. 0, or -1 after a fault. */
 int shard_load_frames(struct shard *shard, int first, int end);
@@ -214,12 +219,8 @@ uint32_t shard_judge(struct shard *shard, const struct receiving *of);
 
 /* ---- shard_receipts.c */
 
-/* All receipts that are due are sealed and published; none is owed. */
+/* All receipts that are due are sealed and published. */
 void shard_pay(struct shard *shard);
 void shard_pay_rest(struct shard *shard); /* before it ends: however short the time since the last ones is */
-void shard_owe_nothing(struct shard *shard);
-
-/* When a receipt that is owed is due, in milliseconds. */
-uint64_t shard_next_receipt(const struct shard *shard);
 
 #endif

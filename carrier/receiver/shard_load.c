@@ -26,12 +26,12 @@ static void free_receiving(void *given)
     free(it);
 }
 
-enum { LISTS = 6 };
+enum { LISTS = 5 };
 
 /* Its lists, in each of which all sessions have room. */
 static void lists_of(struct shard *s, struct list *lists[LISTS])
 {
-    struct list *const all[LISTS] = { &s->changed, &s->taken, &s->owing, &s->standing, &s->asked, &s->news };
+    struct list *const all[LISTS] = { &s->members, &s->changed, &s->standing, &s->asked, &s->news };
     memcpy(lists, all, sizeof all);
 }
 
@@ -143,18 +143,26 @@ static int note_stored(void *given, const char *name, const struct demand *deman
     return 0;
 }
 
-/* What this receiver makes of a session's row. */
-static void place_session(const struct shard *s, struct receiving *it)
+/* What this receiver makes of a session's row: 0, or -1 if there is no memory. */
+static int place_session(struct shard *s, struct receiving *it)
 {
     struct krbrelay_row row = { .number = it->stored.next, .closed = it->stored.closed };
+    enum krbrelay_answer answer;
     memcpy(row.history, it->stored.history.bytes, sizeof row.history);
-    krbrelay_receiving_load(&it->end, &row, milliseconds());
+    answer = krbrelay_shard_add(&s->ends, &row, &it->place);
+    if (answer != KRBRELAY_OK) {
+        report_answer("session_unloaded", it->of.name, row.number, answer);
+        return -1;
+    }
+    s->members.at[s->members.count++] = it;
+    it->drafted = row;
     it->now = it->stored;
     if (!it->stored.is_stored || it->stored.shard != (int32_t)s->number) {
         it->now.at = 0;
         it->now.shard = (int32_t)s->number;
         it->now.missed = MISSED_NOTHING;
     }
+    return 0;
 }
 
 /* Asks the store of the sessions that are noted for it. */
@@ -179,7 +187,7 @@ static int ask_for(struct shard *s, struct receiving *it)
 {
     int is_new = it->turn != s->turn;
     ask(s, it);
-    return is_new || it->end.drafted.number == it->of.first ? ask_before(s, it) : 0;
+    return is_new || it->drafted.number == it->of.first ? ask_before(s, it) : 0;
 }
 
 int shard_load_frames(struct shard *s, int first, int end)
@@ -205,7 +213,8 @@ int shard_load_frames(struct shard *s, int first, int end)
     if (ask_store(s) != 0)
         return -1;
     for (each = 0; each < s->asked.count; each++)
-        place_session(s, s->asked.at[each]);
+        if (place_session(s, s->asked.at[each]) != 0)
+            return -1;
     return 0;
 }
 
@@ -218,10 +227,7 @@ static void begin_turn(struct shard *s)
     s->turn++;
     for (i = 0; i < s->changed.count; i++)
         ((struct receiving *)s->changed.at[i])->is_changed = 0;
-    for (i = 0; i < s->taken.count; i++)
-        ((struct receiving *)s->taken.at[i])->is_taken = 0;
-    s->changed.count = s->taken.count = 0;
-    shard_owe_nothing(s);
+    s->changed.count = s->members.count = 0;
 }
 
 static int count_closed(void *given, const char *name, const struct demand *demand)
@@ -256,14 +262,34 @@ static int count_open(struct shard *s)
     return answer;
 }
 
-/* Where the shard is read on, by krb_engine: not from where it was, if it is another list, or was cut off. */
-static int place_reading(struct shard *s, uint64_t list, uint64_t end)
+int shard_look(struct shard *s)
 {
-    struct krbrelay_reading *it = &s->reading;
-    uint32_t read = KRBRELAY_READ_NOTHING;
-    if (krbrelay_reading_frames(it, list, end, 0, &read) != KRBRELAY_OK)
+    return krbrelay_shard_reading(&s->ends, &s->reading) == KRBRELAY_OK ? 0 : -1;
+}
+
+/* The store has gone back, if it has less of the same list than is known. */
+static void tell_behind(struct shard *s, const struct reached *reached)
+{
+    const struct krbrelay_spot *known = &s->reading.stored;
+    uint32_t found = KRBRELAY_FOUND_SAME;
+    if (krbrelay_shard_found(&s->ends, reached->incarnation, reached->offset, &found) == KRBRELAY_OK
+        && found == KRBRELAY_FOUND_BEHIND && reached->incarnation == known->list)
+        log_fact(LEVEL_ERROR, "store_behind", field_number("shard", s->number), field_number("known", known->offset),
+                 field_number("offset", reached->offset),
+                 field_text("text", "the store has gone back: the shard is read again from there, and what took effect since is"
+                                    " lost, unless its frames come again"));
+}
+
+/* Where the shard is read on: not from where it was, if it is another list, or was cut off. */
+static int place_reading(struct shard *s, const struct reached *reached, uint64_t list, uint64_t end)
+{
+    const struct krbrelay_reading *it = &s->reading;
+    uint32_t is_elsewhere = 0;
+    tell_behind(s, reached);
+    if (krbrelay_shard_loaded(&s->ends, reached->incarnation, reached->offset) != KRBRELAY_OK
+        || krbrelay_shard_listed(&s->ends, list, end, &is_elsewhere) != KRBRELAY_OK || shard_look(s) != 0)
         return -1;
-    if (read == KRBRELAY_READ_ELSEWHERE && it->stored.list != 0)
+    if (is_elsewhere && it->stored.list != 0)
         log_fact(LEVEL_WARNING, it->stored.list != list ? "shard_made_anew" : "shard_lost_frames",
                  field_number("shard", s->number), field_number("end", end),
                  field_number("offset", it->stored.offset), field_number("from", it->read.offset),
@@ -281,12 +307,11 @@ int shard_load(struct shard *s)
     if (store_reached(s->store, s->number, &reached) != 0
         || (s->options->until_closed && count_open(s) != 0))
         return -1;
-    krbrelay_reading_load(&s->reading, reached.incarnation, reached.offset);
     if (s->carrier->incarnation(s->carrier, s->number, &list, &end) != 0 || list == 0)
         return 1;
     if (s->kerberos != NULL && !s->has_wrapped) /* without the keytab others go on */
         s->has_wrapped = kept_wrap_anew(s->store, s->kerberos, s->number) == 0;
-    if (place_reading(s, list, end) != 0)
+    if (place_reading(s, &reached, list, end) != 0)
         return -1;
     s->carrier->seek(s->carrier, s->number, s->reading.read.offset);
     s->next = s->fetched = 0;

@@ -88,9 +88,9 @@ static struct krbrelay_head head_before(struct shard *s, const struct receiving 
         return head;
     *is_known = before->stored.history.is_known;
     head.turn = 1;
-    head.number = before->end.drafted.number;
-    head.closed = before->end.drafted.closed;
-    memcpy(head.history, before->end.drafted.history, sizeof head.history);
+    head.number = before->drafted.number;
+    head.closed = before->drafted.closed;
+    memcpy(head.history, before->drafted.history, sizeof head.history);
     return head;
 }
 

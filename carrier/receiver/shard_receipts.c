@@ -1,5 +1,5 @@
-/* Receipts for the sessions of a shard (receipts.h): which are due, and what they say, is krb_engine's. They are
- * of what is stored. */
+/* Receipts for the sessions of a shard (receipts.h): which leaves, when, and what it says is krb_receiver's. They are of
+ * what is stored. */
 #include "clock.h"
 #include "receipts.h"
 #include "shard.h"
@@ -26,40 +26,32 @@ static int seal(const struct receiving *it, const struct krbrelay_receipt *due, 
 /* Some receipts that are sealed, and whose they are. */
 struct sealed {
     size_t count;
-    struct receiving *of[TOGETHER];
-    uint32_t asks[TOGETHER];
+    uint32_t places[TOGETHER], asks[TOGETHER];
     struct carried list[TOGETHER];
     uint8_t frames[TOGETHER][RECEIPT];
 };
 
-/* Those that are due at this moment. */
-static void seal_some(struct shard *s, uint64_t now, struct sealed *to)
+/* It didn't leave: 1, or 0 without such a session, which is never. */
+static int owe_again(struct shard *s, uint32_t place, uint32_t asks)
 {
-    size_t i, kept = 0;
-    to->count = 0;
-    for (i = 0; i < s->owing.count; i++) {
-        struct receiving *it = s->owing.at[i];
-        struct krbrelay_receipt due = { .asks = 0 };
-        if (to->count == TOGETHER || krbrelay_receiving_receipt(&it->end, now, &due) != KRBRELAY_OK)
-            due.asks = 0;
-        if (due.asks != 0 && seal(it, &due, &to->list[to->count], to->frames[to->count])) {
-            to->asks[to->count] = due.asks;
-            to->of[to->count++] = it;
-        }
-        it->is_owing = it->end.owed != 0;
-        if (it->is_owing)
-            s->owing.at[kept++] = it;
-    }
-    s->owing.count = kept;
+    return krbrelay_shard_unpaid(&s->ends, place, asks) == KRBRELAY_OK;
 }
 
-/* They didn't leave. */
-static void owe_again(struct shard *s, const struct sealed *it)
+/* Those that are due at this moment. None is of sessions that were forgotten. */
+static void seal_some(struct shard *s, uint64_t now, struct sealed *to)
 {
-    size_t i;
-    for (i = 0; i < it->count; i++) {
-        it->of[i]->end.owed = it->asks[i];
-        list_add(&s->owing, it->of[i], &it->of[i]->is_owing);
+    struct krbrelay_receipt due = { .asks = 0 };
+    uint32_t place = 0;
+    to->count = 0;
+    while (to->count < TOGETHER && krbrelay_shard_receipt(&s->ends, now, &place, &due) == KRBRELAY_OK && due.asks != 0) {
+        if (place >= s->members.count)
+            continue;
+        to->places[to->count] = place;
+        to->asks[to->count] = due.asks;
+        if (seal(s->members.at[place], &due, &to->list[to->count], to->frames[to->count]))
+            to->count++;
+        else if (!owe_again(s, place, due.asks))
+            break;
     }
 }
 
@@ -67,11 +59,13 @@ static void owe_again(struct shard *s, const struct sealed *it)
 static int pay_some(struct shard *s, uint64_t now)
 {
     struct sealed some;
+    size_t i;
     seal_some(s, now, &some);
     if (some.count == 0)
         return 0;
     if (s->carrier->acknowledge(s->carrier, s->number, some.list, some.count) != 0) {
-        owe_again(s, &some);
+        for (i = 0; i < some.count && owe_again(s, some.places[i], some.asks[i]); i++)
+            continue;
         return 0;
     }
     s->counts.receipts += some.count;
@@ -80,34 +74,26 @@ static int pay_some(struct shard *s, uint64_t now)
 
 void shard_pay(struct shard *s)
 {
-    while (s->is_loaded && s->owing.count > 0 && pay_some(s, milliseconds()))
+    while (pay_some(s, milliseconds()))
         continue;
+}
+
+/* Whether a session owes a receipt. */
+static int owes(struct shard *s)
+{
+    struct krbrelay_receiving end = { .owed = 0 };
+    size_t i;
+    for (i = 0; i < s->members.count; i++)
+        if (krbrelay_shard_session(&s->ends, (uint32_t)i, &end) == KRBRELAY_OK && end.owed != 0)
+            return 1;
+    return 0;
 }
 
 /* A carrier may need a moment before it keeps receipts. */
 void shard_pay_rest(struct shard *s)
 {
     uint64_t until = milliseconds() + REST;
-    while (s->is_loaded && s->owing.count > 0 && milliseconds() < until && !s->carrier->is_away(s->carrier))
-        if (!pay_some(s, milliseconds() + LATER) && s->owing.count > 0)
+    while (owes(s) && milliseconds() < until && !s->carrier->is_away(s->carrier))
+        if (!pay_some(s, milliseconds() + LATER) && owes(s))
             pause_milliseconds(AGAIN);
-}
-
-uint64_t shard_next_receipt(const struct shard *s)
-{
-    uint64_t next = UINT64_MAX;
-    size_t i;
-    for (i = 0; i < s->owing.count; i++) {
-        uint64_t at = krbrelay_pause_end(&((const struct receiving *)s->owing.at[i])->end.paid);
-        next = at < next ? at : next;
-    }
-    return next;
-}
-
-void shard_owe_nothing(struct shard *s)
-{
-    size_t i;
-    for (i = 0; i < s->owing.count; i++)
-        ((struct receiving *)s->owing.at[i])->is_owing = 0;
-    s->owing.count = 0;
 }

@@ -1,10 +1,9 @@
 /* One transaction of a shard (shard.h): the effects of frames that follow one another, what their sessions demand next,
  * and the new offset.
  *
- * It has the frames that were fetched, as long as they take no longer than a second, and as the program isn't to end: what
- * was taken until then is stored, and the next transaction has the rest. Where an effect fails, all of them up to that one are
- * taken alone, a transaction each, in which each text is waited for: so what fails is named, and what others did isn't
- * done again. What a command has answered before is stored at once, since a rollback doesn't undo it. */
+ * It has the frames that were fetched, until krb_receiver says that it is full, or the program is to end: what was taken until
+ * then is stored, and the next transaction has the rest. A transaction that krb_receiver has alone is one of a frame, in
+ * which each text is waited for: so what fails is named, and what others did isn't done again. */
 #include "clock.h"
 #include "effects.h"
 #include "ending.h"
@@ -14,15 +13,12 @@
 
 #include <string.h>
 
-#define LONG UINT64_C(1000000000) /* nanoseconds of a transaction, after which what was taken is stored */
-enum { AT_ONCE = 16 };            /* refusals of a text that is to be put aside, without a pause between them */
-
 /* ---- What is stored */
 
 /* The row that this transaction leaves. */
 static void draft(struct receiving *it)
 {
-    const struct krbrelay_row *row = &it->end.drafted;
+    const struct krbrelay_row *row = &it->drafted;
     it->now.next = row->number;
     it->now.closed = row->closed;
     memcpy(it->now.history.bytes, row->history, sizeof row->history);
@@ -64,11 +60,11 @@ static void count_stored(struct shard *s)
     s->open -= s->drafted.closed < s->open ? s->drafted.closed : s->open;
 }
 
-/* The transaction took effect. */
+/* The transaction took effect: 0, or -1 where krb_receiver doesn't say up to where. */
 static int note_stored(struct shard *s)
 {
     size_t i;
-    int answer = krbrelay_reading_stored(&s->reading) == KRBRELAY_OK ? 0 : -1;
+    int answer = krbrelay_shard_stored(&s->ends) == KRBRELAY_OK ? shard_look(s) : -1;
     for (i = 0; i < s->changed.count; i++) {
         struct receiving *it = s->changed.at[i];
         it->now.is_stored = 1;
@@ -77,16 +73,9 @@ static int note_stored(struct shard *s)
         it->is_changed = 0;
         it->opened_at = 0;
     }
-    for (i = 0; i < s->taken.count && answer == 0; i++) {
-        struct receiving *it = s->taken.at[i];
-        it->is_taken = 0;
-        answer = krbrelay_receiving_stored(&it->end) == KRBRELAY_OK ? 0 : -1;
-        if (it->end.owed != 0)
-            list_add(&s->owing, it, &it->is_owing);
-    }
     keep_news(s);
-    s->changed.count = s->taken.count = 0;
-    s->done_parts.parts = s->refused = 0;
+    s->changed.count = 0;
+    s->done_parts.parts = 0;
     count_stored(s);
     return answer;
 }
@@ -104,27 +93,28 @@ static int begin(struct shard *s, uint64_t to)
 
 /* A command does what no rollback undoes, and may take long: no transaction is open meanwhile, and whether another
  * receiver was faster is asked before. */
-static enum transaction ask_fence(struct shard *s)
+static uint32_t ask_fence(struct shard *s)
 {
     struct reached reached;
-    if (store_reached(s->store, s->number, &reached) != 0)
-        return TRANSACTION_FAULT;
-    return reached.incarnation == s->reading.stored.list && reached.offset == s->reading.stored.offset
-               ? TRANSACTION_STORED : TRANSACTION_FENCED;
+    uint32_t found = KRBRELAY_FOUND_SAME;
+    if (store_reached(s->store, s->number, &reached) != 0
+        || krbrelay_shard_found(&s->ends, reached.incarnation, reached.offset, &found) != KRBRELAY_OK)
+        return KRBRELAY_FAILURE_FAULT;
+    return found == KRBRELAY_FOUND_SAME ? SHARD_DONE : KRBRELAY_FAILURE_FENCED;
 }
 
-static enum transaction open_store(struct shard *s, int end, int alone)
+static uint32_t open_store(struct shard *s, int end, uint32_t alone)
 {
     s->is_begun = 0;
     if (effects_are_outside())
         return ask_fence(s);
     s->is_begun = 1;
     if (begin(s, s->frames[end - 1].offset) != 0)
-        return TRANSACTION_FAULT;
+        return KRBRELAY_FAILURE_FAULT;
     if (alone && s->store->checks_at_once != NULL
         && s->store->run(s->store, s->store->checks_at_once, NULL, 0, ANY_ROWS) != 0)
-        return TRANSACTION_FAULT;
-    return TRANSACTION_STORED;
+        return KRBRELAY_FAILURE_FAULT;
+    return SHARD_DONE;
 }
 
 int shard_begin_late(struct shard *s)
@@ -146,12 +136,16 @@ static int place_offset(struct shard *s, int next)
     return now.offset == s->moved_to ? 0 : store_move(s->store, s->number, &before, &now);
 }
 
-/* Stores the frames up to this one. */
-static enum transaction commit(struct shard *s, int next)
+/* A fault of the store. Where it says that it refuses values, those of a text may be the reason. No text of a command has
+ * values in it. */
+static uint32_t fault_of(const struct shard *s)
 {
-    struct krbrelay_reading *reading = &s->reading;
-    uint64_t last = s->frames[next - 1].offset;
-    uint32_t read = KRBRELAY_READ_NOTHING;
+    return !effects_are_outside() && s->store->refusal(s->store) != NULL ? KRBRELAY_FAILURE_REFUSED : KRBRELAY_FAILURE_FAULT;
+}
+
+/* Stores the frames up to this one. */
+static uint32_t commit(struct shard *s, int next)
+{
     int answer = place_offset(s, next);
     if (answer == 0)
         answer = advance_all(s);
@@ -160,45 +154,44 @@ static enum transaction commit(struct shard *s, int next)
     else
         s->store->rollback(s->store);
     if (answer != 0)
-        return answer > 0 ? TRANSACTION_FENCED : TRANSACTION_FAULT;
-    if (krbrelay_reading_frames(reading, reading->read.list, last, last - reading->read.offset, &read) != KRBRELAY_OK
-        || read != KRBRELAY_READ_TAKE || note_stored(s) != 0)
-        return TRANSACTION_FAULT; /* never: fetch has asked it of all of them */
+        return answer > 0 ? KRBRELAY_FAILURE_FENCED : fault_of(s);
+    if (note_stored(s) != 0)
+        return KRBRELAY_FAILURE_FAULT; /* never: a transaction is under way */
     shard_leave(s, next);
     s->next = next;
-    return TRANSACTION_STORED;
+    return SHARD_DONE;
 }
 
 /* ---- Its frames */
 
-static int is_alone(const struct shard *s, int place)
+/* Whether it takes no frame more. */
+static int is_full(struct shard *s)
 {
-    return s->alone.incarnation == s->reading.read.list && s->frames[place].offset <= s->alone.offset;
+    return s->is_last || krbrelay_shard_is_full(&s->ends, milliseconds()) || is_ending();
 }
 
-/* Frames up to this one are taken alone. */
-static void take_alone(struct shard *s, int place)
+/* What the answer to an effect is for krb_receiver. */
+static uint32_t failure_of(const struct shard *s, enum effect_answer answer)
 {
-    s->alone = (struct reached){ s->reading.read.list, s->frames[place].offset };
-}
-
-/* Whether it has taken long enough, or has to end. */
-static int is_due(const struct shard *s, uint64_t began)
-{
-    return s->is_last || nanoseconds() - began > LONG || is_ending();
+    switch (answer) {
+    case EFFECT_DONE: return SHARD_DONE;
+    case EFFECT_REFUSED: return KRBRELAY_FAILURE_REFUSED;
+    case EFFECT_LATER: return KRBRELAY_FAILURE_LATER;
+    case EFFECT_FAULT: break;
+    }
+    return fault_of(s);
 }
 
 /* Takes frames from the next one on: *next is the first that wasn't. */
-static enum effect_answer take_frames(struct shard *s, int end, int alone, int *next)
+static uint32_t take_frames(struct shard *s, int end, int alone, int *next)
 {
-    uint64_t began = nanoseconds();
     enum effect_answer answer = EFFECT_DONE;
     int i = s->next;
-    s->shown = began;
+    s->shown = nanoseconds();
     s->is_last = 0;
     s->drafted = (struct drafted){ .texts = 0 };
     s->together.first = s->together.count = 0;
-    while (i < end && (i == s->next || !is_due(s, began))) {
+    while (i < end && (i == s->next || !is_full(s))) {
         answer = shard_take(s, i, end, alone);
         if (answer != EFFECT_DONE)
             break;
@@ -206,64 +199,59 @@ static enum effect_answer take_frames(struct shard *s, int end, int alone, int *
         i++;
     }
     *next = i;
-    return answer;
+    return failure_of(s, answer);
 }
 
-/* An effect failed. All frames up to its own are taken alone; those before it that a command took are stored. */
-static enum transaction give_up(struct shard *s, enum effect_answer answer, int next, int alone)
+/* The frame of this place isn't taken, or what ends with it isn't stored. */
+static struct transacted fail(struct shard *s, uint32_t failure, int place)
 {
-    int is_first = next == s->next;
-    take_alone(s, next);
-    if (answer != EFFECT_FAULT && effects_are_outside() && !is_first)
-        return commit(s, next);
+    struct transacted ended = { failure, KRBRELAY_THEN_WAIT };
+    if (krbrelay_shard_failed(&s->ends, failure, s->frames[place].offset, &ended.then) != KRBRELAY_OK)
+        ended.then = KRBRELAY_THEN_WAIT; /* never: there is a shard, and such a failure */
+    return ended;
+}
+
+/* Stores the frames up to this one: how that ended. */
+static struct transacted store(struct shard *s, int next)
+{
+    uint32_t failure = commit(s, next);
+    return failure == SHARD_DONE ? (struct transacted){ SHARD_DONE, KRBRELAY_THEN_STORE } : fail(s, failure, next - 1);
+}
+
+/* The frame of this place isn't taken. What krb_receiver says is to be stored is: what a command did before, which no
+ * rollback undoes. */
+static struct transacted give_up(struct shard *s, uint32_t failure, int place)
+{
+    struct transacted ended = fail(s, failure, place);
+    if (ended.then == KRBRELAY_THEN_STORE)
+        return store(s, place);
     if (s->is_begun)
         s->store->rollback(s->store);
-    if (answer == EFFECT_FAULT)
-        return alone || s->store->refusal(s->store) == NULL ? TRANSACTION_FAULT : TRANSACTION_AGAIN;
-    if (answer == EFFECT_REFUSED && effects_may_put_aside() && s->refused++ < AT_ONCE)
-        return TRANSACTION_AGAIN;
-    return alone || is_first ? TRANSACTION_HELD : TRANSACTION_AGAIN;
+    return ended;
 }
 
-/* The commit failed: where the store says that it refuses values, those of one text may be the reason. */
-static enum transaction note_unstored(struct shard *s, enum transaction ended, int next)
+static struct transacted transact(struct shard *s)
 {
-    if (ended != TRANSACTION_FAULT || s->store->refusal(s->store) == NULL)
-        return ended;
-    if (!is_alone(s, next - 1)) {
-        take_alone(s, next - 1);
-        return TRANSACTION_AGAIN;
-    }
-    return TRANSACTION_HELD; /* it was alone, and is told by the store */
+    uint32_t alone = 0, failure = KRBRELAY_FAILURE_FAULT;
+    int next = s->next, end;
+    s->is_begun = 0;
+    if (krbrelay_shard_begin(&s->ends, s->frames[next].offset, milliseconds(), &alone) != KRBRELAY_OK)
+        return give_up(s, failure, next); /* never: none is under way */
+    end = alone ? next + 1 : s->fetched;
+    if (shard_load_frames(s, next, end) == 0)
+        failure = open_store(s, end, alone);
+    if (failure == SHARD_DONE)
+        failure = take_frames(s, end, (int)alone, &next);
+    return failure == SHARD_DONE ? store(s, next) : give_up(s, failure, next);
 }
 
-static enum transaction transact(struct shard *s)
+struct transacted shard_transact(struct shard *s)
 {
-    int alone = is_alone(s, s->next), end = alone ? s->next + 1 : s->fetched, next = s->next;
-    enum transaction ended;
-    enum effect_answer answer;
-    if (shard_load_frames(s, s->next, end) != 0)
-        return TRANSACTION_FAULT;
-    ended = open_store(s, end, alone);
-    if (ended != TRANSACTION_STORED) {
-        if (s->is_begun)
-            s->store->rollback(s->store);
-        return ended;
-    }
-    answer = take_frames(s, end, alone, &next);
-    if (answer != EFFECT_DONE)
-        return give_up(s, answer, next, alone);
-    ended = commit(s, next);
-    return note_unstored(s, ended, next);
-}
-
-enum transaction shard_transact(struct shard *s)
-{
-    enum transaction ended;
+    struct transacted ended;
     s->moment = read_clock();
     s->lap = nanoseconds();
     ended = transact(s);
-    if (ended != TRANSACTION_STORED && s->news.count > 0)
+    if (ended.failure != SHARD_DONE && s->news.count > 0)
         shard_forget(s); /* what the openings brought isn't stored */
     return ended;
 }

@@ -10,6 +10,8 @@
 static const char *const texts[] = { "", PLANTS(PLANT_TEXT) };
 static enum plant plant;
 
+enum { RECEIPTS_PAUSE = 200 }; /* milliseconds */
+
 int engine_plant(const char *text)
 {
     unsigned i = 0;
@@ -40,22 +42,25 @@ WRAPPED(enum krbrelay_answer, sending_state, const struct krbrelay_sending *end,
 
 /* ---- A receiver */
 
-WRAPPED(enum krbrelay_answer, receiving_receipt, struct krbrelay_receiving *end, uint64_t at_now,
+/* The fault: each receipt is asked for as if its pause were over. */
+WRAPPED(enum krbrelay_answer, shard_receipt, struct krbrelay_shard *shard, uint64_t at_now, uint32_t *place,
         struct krbrelay_receipt *due)
 {
-    if (plant == PLANT_RECEIPTS_AT_ONCE)
-        end->paid.length = 0;
-    return __real_krbrelay_receiving_receipt(end, at_now, due);
+    static uint64_t later;
+    if (plant != PLANT_RECEIPTS_AT_ONCE)
+        return __real_krbrelay_shard_receipt(shard, at_now, place, due);
+    later += RECEIPTS_PAUSE;
+    return __real_krbrelay_shard_receipt(shard, at_now + later, place, due);
 }
 
-WRAPPED(enum krbrelay_answer, reading_frames, struct krbrelay_reading *reading, uint64_t list, uint64_t last, uint64_t count,
-        uint32_t *read)
+WRAPPED(enum krbrelay_answer, shard_listed, struct krbrelay_shard *shard, uint64_t list, uint64_t last, uint32_t *is_elsewhere)
 {
-    if (plant == PLANT_WAITS_FOR_CUT && list == reading->read.list && last < reading->read.offset)
-        return KRBRELAY_OK;
-    if (plant == PLANT_READS_ON && reading->read.list != 0 && last >= reading->read.offset)
-        reading->read.list = list;
-    return __real_krbrelay_reading_frames(reading, list, last, count, read);
+    struct krbrelay_reading read = { .is_open = 0 };
+    *is_elsewhere = 0;
+    if (plant != PLANT_WAITS_FOR_CUT || krbrelay_shard_reading(shard, &read) != KRBRELAY_OK
+        || list != read.read.list || last >= read.read.offset)
+        return __real_krbrelay_shard_listed(shard, list, last, is_elsewhere);
+    return KRBRELAY_OK;
 }
 
 WRAPPED(enum krbrelay_answer, judge, const struct krbrelay_head *head, const struct krbrelay_opening *opening,

@@ -10,7 +10,6 @@
     X(SAME_LIST, "another list: goes on at what was carried") \
     X(LAST_FIRST, "last in, first out") \
     X(WAITS_FOR_CUT, "a list that was cut off is waited for") \
-    X(READS_ON, "another list is read from where the last one was") \
     X(ANY_HISTORY, "an opening is taken on any history") \
     X(BEFORE_CLOSE, "an opening is taken before the close before it") \
     X(ANY_TURN, "another session of a turn that was had begins") \

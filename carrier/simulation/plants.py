@@ -7,26 +7,20 @@ EDITS = {
     "a receipt above the next number is no receipt": [("sender_receipts.c", "RECEIPT_NONE",
       "RECEIPT_NONE || (read == RECEIPT_READ && receipt.n > it->end.progress.next)")],
     "receipts leave before the commit": [("shard_transaction.c", """\
-s);
-    if (answer""", """\
-s);
-    for (size_t i = 0; i < s->taken.count && answer == 0; i++) {
-        struct receiving *it = s->taken.at[i];
-        it->end.stored = it->end.drafted;
-        it->end.is_open = 0;
-        list_add(&s->owing, it, &it->is_owing);
-    }
+        answer = s->store->commit""", """\
+        answer = krbrelay_shard_stored(&s->ends) != KRBRELAY_OK;
     shard_pay(s);
-    if (answer""")],
-    "what was dropped stays": [("shard_transaction.c", "return answer > 0 ? TRANSACTION_FENCED : TRANSACTION_FAULT",
-      "s->reading.stored.offset = s->reading.read.offset")],
-    "an early frame is taken for nobody's": [("shard.c", "if (opens)", "if (opens && number <= of->end.drafted.number)")],
-    "a repeat is taken for nobody's": [("shard.c", "if (opens)", "if (opens && number >= of->end.drafted.number)")],
-    "a refused frame is taken for nobody's": [("shard.c", "if (opens)", "if (opens && number != of->end.drafted.number)")],
+    if (answer == 0)
+        answer = s->store->commit""")],
+    "what was dropped stays": [("shard_transaction.c", "return answer > 0 ? KRBRELAY_FAILURE_FENCED : fault_of(s)",
+      "answer = 0")],
+    "an early frame is taken for nobody's": [("shard.c", "if (opens)", "if (opens && number <= of->drafted.number)")],
+    "a repeat is taken for nobody's": [("shard.c", "if (opens)", "if (opens && number >= of->drafted.number)")],
+    "a refused frame is taken for nobody's": [("shard.c", "if (opens)", "if (opens && number != of->drafted.number)")],
     "a frame is accepted at any number": [("shard.c", "taken =", """\
 taken = &s->together.taken[place - s->together.first];
-    if (taken->answer == KRBRELAY_BADORDER && taken->number != UINT64_MAX && taken->number > of->end.drafted.number) {
-        of->end.drafted.number = taken->number;
+    if (taken->answer == KRBRELAY_BADORDER && taken->number != UINT64_MAX && taken->number > of->drafted.number) {
+        of->drafted.number = taken->number;
         krbrelay_receiver_free(&of->receiver);
         of->is_made = 0;
         if (make_receiver(s, of) != 0)
@@ -39,7 +33,11 @@ for (int i = 1; i < count; i++)
         s->frames[i - 1] = s->frames[i];
     count -= count > 1;
     s->fetched =""")],
-    "the session before is looked for once": [("shard_load.c", "|| it->end.drafted.number == it->of.first ?", "?")],
+    "another list is read from where the last one was": [("shard_load.c", "s->reading.read.offset);\n    s->next", """\
+s->reading.stored.list != list && end >= s->reading.stored.offset ? s->reading.stored.offset
+                                                                                           : s->reading.read.offset);
+    s->next""")],
+    "the session before is looked for once": [("shard_load.c", "|| it->drafted.number == it->of.first ?", "?")],
     "the session before isn't compared": [
         ("shard.c", "note_changed(s, before)", "before->is_changed = before->is_changed")],
     "a second session after one is stored": [("shard_open.c", """\
@@ -91,9 +89,9 @@ if (nanoseconds() > 30 * SECOND && nanoseconds() < 500 * SECOND) {
     "sessions that have ended stay": [("sender.c", "outbox_forget_ended(&s->outbox, it->begun, &s->ended) != 0",
       "(it->begun->turn == 0 && outbox_forget_ended(&s->outbox, it->begun, &s->ended) != 0)")],
     "receipts of sessions that have ended stay": [("sender.c", "ended.count;", "ended.count && s->carrier == NULL;")],
-    "owed receipts are dropped where the carrier is away": [("shard_receipts.c", "owe_again(s,", """\
+    "owed receipts are dropped where the carrier is away": [("shard_receipts.c", "for (i = 0; i < some.count &&", """\
 some.count = 0;
-        owe_again(s,""")],
+        for (i = 0; i < some.count &&""")],
     "numbers aren't compared beside the owner": [("outbox.c", "next = ?3", "?3 IS NOT NULL")],
 }
 
@@ -101,14 +99,14 @@ some.count = 0;
 FOUND = {
     "digests aren't compared": ("forked+killed", 1, "LOST"),
     "a receipt above the next number is no receipt": ("restored", 1, "LEFT_OUT"),
-    "receipts leave before the commit": ("uncommitted", 11, "LOST"),
+    "receipts leave before the commit": ("uncommitted", 6, "LOST"),
     "what was dropped stays": ("uncommitted", 1, "LOST"),
     "an early frame is taken for nobody's": ("cut", 1, "STANDS"),
     "a repeat is taken for nobody's": ("lost+killed", 19, "STANDS"),
     "a refused frame is taken for nobody's": ("skewed", 2, "UNTRUE"),
     "a frame is accepted at any number": ("lost", 1, "OVERTAKEN"),
     "one item in a read is skipped": ("calm", 1, "LATE"),
-    "the session before is looked for once": ("tickets+keys", 7, "STANDS"),
+    "the session before is looked for once": ("tickets+keys", 19, "STANDS"),
     "a second session after one is stored": ("forked+tickets+keys", 1, "DOUBLED"),
     "rows aren't compared": ("moved+stopped+bursts", 23, "DOUBLED"),
     "frames leave before they are stored": ("uncommitted", 1, "STANDS"),

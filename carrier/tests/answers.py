@@ -15,7 +15,7 @@ NOTHING = {
     "memcpy", "memset", "memmove", "strcpy", "explicit_bzero", "free", "qsort", "srand", "exit",
     "_exit", "abort", "tdestroy", "twalk", "va_start", "va_end", "freeaddrinfo", "umask",
     "krbrelay_sealer_free", "krbrelay_opener_free", "krbrelay_receiver_free", "krbrelay_lane_free",
-    "krbrelay_pause_begin", "krbrelay_pause_grow", "krbrelay_receiving_load", "krbrelay_reading_load",
+    "krbrelay_shard_free", "krbrelay_pause_begin", "krbrelay_pause_grow",
     "MHD_stop_daemon", "MHD_destroy_response", "sqlite3_result_int",
     "PQclear", "PQfinish", "PQconninfoFree", "PQsetNoticeProcessor",
     "natsMsg_Destroy", "natsSubscription_Destroy", "natsInbox_Destroy", "jsCtx_Destroy",

@@ -70,11 +70,11 @@ EDITS = {
 """, """\
     if (is_left(*it, text))
 """),
-    "receipts aren't sealed again": ("shard_transaction.c", """\
-        if (it->end.owed != 0)
-            list_add""", """\
-        if (it->end.owed > KRBRELAY_ASKS_NOTHING)
-            list_add"""),
+    "receipts aren't sealed again": ("shard_receipts.c", """\
+        if (place >= s->members.count)
+""", """\
+        if (place >= s->members.count || due.asks == KRBRELAY_ASKS_NOTHING)
+"""),
     "deduplication on": ("nats_publisher.c", """\
     status = natsConnection_PublishRequest(c->connection, subject, reply, frame, (int)len);
 """, """\

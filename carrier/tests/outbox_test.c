@@ -263,6 +263,29 @@ static void test_taken_back(struct outbox *outbox)
     seal_free(&sending);
 }
 
+/* The texts of one session that wait, up to one of them: that one too, and so many at most. */
+static void test_waiting(struct outbox *outbox)
+{
+    static const struct { int before, limit, found; } cases[] = { { 0, 9, 3 }, { 1, 9, 2 }, { 2, 9, 1 }, { 0, 2, 2 } };
+    struct waiting_text text = { 0 };
+    sqlite3_int64 last;
+    size_t i;
+    for (i = 0; i < 3; i++) {
+        put(outbox, "others", bytes, 5);
+        put(outbox, "waits", bytes, 5);
+    }
+    last = sqlite3_last_insert_rowid(outbox->db);
+    for (i = 0; i < sizeof cases / sizeof *cases; i++) {
+        struct statement *select = outbox_select_waiting(outbox, "waits", last - 2 * cases[i].before,
+                                                         (size_t)cases[i].limit);
+        int found = 0;
+        while (outbox_next_text(select, &text) == 1 && strcmp(text.session, "waits") == 0)
+            found++;
+        sqlite3_reset(select->at);
+        check(found == cases[i].found, "texts up to one of them are given");
+    }
+}
+
 /* Each text is noted with its number and its place in the record. */
 static void test_noted(struct outbox *outbox)
 {
@@ -535,6 +558,8 @@ int main(int count, char **words)
     RUN(test_last_number(&outbox));
     check(sqlite3_exec(outbox.db, "DELETE FROM text; DELETE FROM sealed", NULL, NULL, NULL) == SQLITE_OK, "texts are taken");
     RUN(test_taken_back(&outbox));
+    check(sqlite3_exec(outbox.db, "DELETE FROM text; DELETE FROM sealed", NULL, NULL, NULL) == SQLITE_OK, "texts are taken");
+    RUN(test_waiting(&outbox));
     check(sqlite3_exec(outbox.db, "DELETE FROM text; DELETE FROM sealed", NULL, NULL, NULL) == SQLITE_OK, "texts are taken");
     RUN(test_noted(&outbox));
     check(sqlite3_exec(outbox.db, "DELETE FROM text; DELETE FROM sealed", NULL, NULL, NULL) == SQLITE_OK, "texts are taken");

@@ -15,13 +15,13 @@ FOLDERS = "/usr/sbin:/usr/bin:/sbin:/bin"
 class Realm:
     """A realm with its KDC, until stop."""
 
-    def __init__(self, folder, env=None):
-        self.folder, self.port, self.env = folder, engines.free_ports(1)[0], env
+    def __init__(self, folder, env=None, name=REALM):
+        self.folder, self.port, self.env, self.name = folder, engines.free_ports(1)[0], env, name
         self.process = None
         self.start()
 
     def start(self):
-        self.process = subprocess.Popen([REALM_SCRIPT, self.folder, str(self.port), REALM],
+        self.process = subprocess.Popen([REALM_SCRIPT, self.folder, str(self.port), self.name],
                                         stdout=subprocess.PIPE, text=True, env=self.env)
         lines = [self.process.stdout.readline() for _ in range(2)]
         if not all(lines):
@@ -48,7 +48,7 @@ class Realm:
                               stderr=subprocess.STDOUT).stdout
 
     def kadmin(self, *asked):
-        text = self.must(["kadmin.local", "-r", REALM], "\n".join(asked) + "\n")
+        text = self.must(["kadmin.local", "-r", self.name], "\n".join(asked) + "\n")
         if "while" in text:     # as in "... while creating"
             raise RuntimeError(text)
 
@@ -57,6 +57,13 @@ class Realm:
         path = self.path(name.replace("/", "-") + ".keytab")
         self.kadmin(f"addprinc -randkey {name}", f"ktadd -q -k {path} {name}")
         return path
+
+    def is_trusted_by(self, other):
+        """The other realm takes tickets of this one: both have a key, and who asks here finds its KDC."""
+        for realm in (self, other):
+            realm.kadmin(f"addprinc -pw between krbtgt/{other.name}@{self.name}")
+        with open(self.path("krb5.conf"), "a", encoding="utf-8") as file:
+            file.write(f"[realms]\n  {other.name} = {{\n    kdc = 127.0.0.1:{other.port}\n  }}\n")
 
     def config(self, path, skew):
         """Another krb5.conf, whose clockskew is this one."""

@@ -2,11 +2,12 @@
  * stored if an effect of it fails, and what is left in memory:
  *     shard_test FOLDER
  * Built with -Wl,--wrap=free,--wrap=krbrelay_opener_open,--wrap=krbrelay_receiver_take_many,--wrap=kept_find,
- * --wrap=opening_session. */
+ * --wrap=opening_session,--wrap=log_fields. */
 #include "check.h"
 #include "clock.h"
 #include "effects.h"
 #include "kept.h"
+#include "log.h"
 #include "receipts.h"
 #include "shard.h"
 
@@ -102,6 +103,17 @@ int __wrap_kept_find(struct store *store, struct kerberos *kerberos, const char 
     return 0;
 }
 
+void __real_log_fields(enum level level, const char *event, const struct field *fields);
+void __wrap_log_fields(enum level level, const char *event, const struct field *fields);
+
+static int behind;              /* so often the store was said to have gone back */
+
+void __wrap_log_fields(enum level level, const char *event, const struct field *fields)
+{
+    behind += strcmp(event, "store_behind") == 0;
+    __real_log_fields(level, event, fields);
+}
+
 static const struct session *tom;
 
 int __wrap_opening_session(struct kerberos *kerberos, const struct opened *it, unsigned number, struct session *of)
@@ -152,10 +164,10 @@ static int step(struct shard *shard)
     uint64_t until = 0, again = 0;
     int count = shard_step(shard, &until);
     while (milliseconds() < shard->rests) {
-        check(until == shard->rests, "the next step is due after the rest");
+        check(until <= shard->rests, "the next step is due after the rest, or with a receipt before");
         pause_milliseconds(10);
-        check(milliseconds() >= shard->rests || (shard_step(shard, &again) == 0 && again == until),
-              "one that is woken before does nothing");
+        check(milliseconds() >= shard->rests || (shard_step(shard, &again) == 0 && again <= shard->rests),
+              "one that is woken before does nothing but pay a receipt");
     }
     return count;
 }
@@ -366,6 +378,22 @@ static void test_failing_statement(struct shard *shard, struct carrier *carrier,
     check(effects_choose(NULL, 0) == 0, "the effect is of effect.c again");
 }
 
+/* The store is restored as it was some frames ago, below a receiver that goes on: it says so, and reads the frames again. */
+static void test_store_behind(struct shard *shard, struct carrier *carrier, sqlite3 *store)
+{
+    uint64_t repeats = shard->counts.repeats;
+    int64_t offset = told(store, "SELECT offset FROM shard WHERE shard = 3");
+    publish_texts(carrier, NUMBER + 1, 2);
+    take(shard);
+    check(behind == 0 && shard->counts.repeats == repeats + 1, "a store that is as it was isn't behind");
+    check(told(store, "SELECT offset FROM shard WHERE shard = 3") == offset + 1, "it has one frame more");
+    change(store, "UPDATE shard SET offset = offset - 1 WHERE shard = 3");
+    shard->looked = 0;
+    take(shard);
+    check(behind == 1, "the receiver says once that it has gone back");
+    check(shard->counts.repeats == repeats + 2, "and its frame is read again");
+}
+
 /* A session of a stream whose turn hasn't come, as far as the receiver sees: its frame comes too early. */
 static void publish_early(struct shard *shard, struct carrier *carrier, const char *name)
 {
@@ -453,6 +481,41 @@ static void test_streams(struct shard *shard, struct carrier *carrier, sqlite3 *
     shard->kerberos = NULL;
 }
 
+/* ---- A carrier that takes no receipts for a while */
+
+static int takes_none, offered;
+static int (*acknowledge)(struct carrier *, unsigned, const struct carried *, size_t);
+
+static int acknowledge_or_not(struct carrier *c, unsigned shard, const struct carried *list, size_t count)
+{
+    offered += takes_none;
+    return takes_none ? -1 : acknowledge(c, shard, list, count);
+}
+
+/* A receipt that didn't leave is owed still: it leaves without another frame. */
+static void test_receipt_that_stays(struct shard *shard, struct carrier *carrier)
+{
+    struct carrier *of_shard = shard->carrier;
+    uint64_t receipts = shard->counts.receipts;
+    int tries;
+    acknowledge = of_shard->acknowledge;
+    of_shard->acknowledge = acknowledge_or_not;
+    takes_none = 1;
+    publish_texts(carrier, NUMBER + 8, 2);
+    for (tries = 0; tries < 10 * STEPS && offered < 2; tries++) {
+        check(step(shard) >= 0, "a step while the carrier takes no receipt");
+        pause_milliseconds(10);
+    }
+    check(offered >= 2 && shard->counts.receipts == receipts, "the receipt is offered again, and none has left");
+    takes_none = 0;
+    for (tries = 0; tries < 10 * STEPS && shard->counts.receipts == receipts; tries++) {
+        check(step(shard) >= 0, "a step where it takes them");
+        pause_milliseconds(10);
+    }
+    check(shard->counts.receipts == receipts + 1, "then it leaves");
+    of_shard->acknowledge = acknowledge;
+}
+
 int main(int count, char **words)
 {
     static char store[4096], where[4096];
@@ -481,6 +544,8 @@ int main(int count, char **words)
     test_together(&shard, carrier, asked);
     test_failing_statement(&shard, carrier, asked);
     test_longest(&shard, carrier, asked);
+    test_store_behind(&shard, carrier, asked);
+    test_receipt_that_stays(&shard, carrier);
     test_streams(&shard, carrier, asked);
     check(sqlite3_close(asked) == SQLITE_OK, "it is closed");
     watched = shard.bytes;

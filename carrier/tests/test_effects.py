@@ -316,9 +316,10 @@ def test_what_a_command_refuses_is_put_aside(ends):
 
 @pytest.mark.parametrize("said", ["again", "end", "what", ""])
 def test_a_command_that_fails_once_is_asked_again(ends, said):
-    """None of these is a refusal: the text takes effect once the command takes it."""
+    """None of these is a refusal: the text takes effect once the command takes it, and one that ended is noticed at
+    once."""
     ends.put([b"one", b"odd", b"two"])
-    ends.to_the_end("--effect", ends.command({"odd": [said]}), "--put-aside", "1")
+    ends.to_the_end("--effect", ends.command({"odd": [said]}), "--put-aside", "1", seconds=30)
     assert aside(ends) == []
     found = dict.fromkeys(bytes.fromhex(it[3]) for it in ends.written())
     assert list(found) == [b"one", b"odd", b"two"]

@@ -5,12 +5,13 @@ import os
 import shutil
 import subprocess
 import tempfile
+import time
 
 import engines
 import psycopg2
 import pytest
 from test_put_get import carrier, ran
-from test_effects import Ends, both_programs, compiled, most_times, texts
+from test_effects import TO_WAIT, Ends, both_programs, compiled, most_times, texts
 
 # A cast isn't a name, and nor is what is in quotes.
 STATEMENT = "sql:INSERT INTO mine (session, number, part, text, again) VALUES (:session, :number, :part::int, :text, ':no')"
@@ -131,3 +132,17 @@ def test_a_server_that_is_away_puts_nothing_aside(ends):
         it.terminate()
         assert it.wait(30) == 0
     assert ends.texts_of("mine") == texts(600) and ends.texts_of("aside") == []
+
+
+def test_a_receiver_whose_statement_goes_on_ends_in_time(ends):
+    """Nothing of it is stored."""
+    ends.server.ask(MINE.format(""))
+    ends.put([b"one"])
+    assert ends.sender("--drain").wait(60) == 0
+    process = ends.receiver("--effect", "sql:INSERT INTO mine (text, again) SELECT :text, pg_sleep(25)::text")
+    asked = "SELECT 1 FROM pg_stat_activity WHERE state = 'active' AND query LIKE 'INSERT%pg_sleep(25)%'"
+    until = time.monotonic() + TO_WAIT
+    while not ends.server.ask(asked):
+        assert time.monotonic() < until, ends.log()[-2000:]
+    process.terminate()
+    assert process.wait(8) == 0 and ends.texts_of("mine") == []

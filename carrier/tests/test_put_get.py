@@ -3,6 +3,7 @@ the carrier's page, as they are pasted."""
 import contextlib
 import json
 import os
+import pathlib
 import re
 import signal
 import sqlite3
@@ -11,7 +12,7 @@ import sys
 import time
 
 import pytest
-from test_effects import SOURCES, TO_WAIT, Ends, both_programs
+from test_effects import SOURCES, TO_WAIT, Ends, _files_of_their_owner_alone, both_programs  # noqa: F401
 
 from lib.build import building
 
@@ -108,6 +109,51 @@ def test_waiting_for_a_receipt(ends):
         it.wait(TO_WAIT)
 
 
+def frames_of(ends):
+    return ends.run("outbox", "SELECT count(*) FROM frame")[0][0]
+
+
+def test_frames_with_a_receipt_are_deleted_after_a_transaction_that_failed(ends):
+    """Both sessions' receipts came before the sender: the first frame's deletion is taken back with that of the second
+    one, which fails. Later both are deleted, though no text comes, nor another receipt."""
+    for name in ("tom", "ann"):
+        assert put(ends, name, given=b"a") == (0, "", "")
+    assert ends.sender("--drain").wait(TO_WAIT) == 0
+    receiver = ends.receiver()
+    ends.await_frames(2)
+    receiver.send_signal(signal.SIGTERM)
+    assert receiver.wait(TO_WAIT) == 0 and frames_of(ends) == 2
+    ends.run("outbox", "CREATE TRIGGER no BEFORE DELETE ON frame WHEN (SELECT count(*) FROM frame) = 1"
+             " BEGIN SELECT RAISE(ABORT, 'not now'); END")
+    sender, until = ends.sender(), time.monotonic() + TO_WAIT
+    while b"not now" not in pathlib.Path(f"{ends.folder}/sender.log").read_bytes():
+        assert time.monotonic() < until
+        time.sleep(0.05)
+    ends.run("outbox", "DROP TRIGGER no")
+    while frames_of(ends):
+        assert time.monotonic() < until, "a frame stays"
+        time.sleep(0.05)
+    sender.send_signal(signal.SIGTERM)
+    assert sender.wait(TO_WAIT) == 0
+
+
+def test_a_session_whose_shard_changes_before_it_is_read(ends):
+    """What was carried in the shard before is published to the new one, though both have one file."""
+    assert put(ends, "--lines", "tom", given=b"a\nb\n") == (0, "", "")
+    assert ends.sender("--drain").wait(TO_WAIT) == 0
+    with open(f"{ends.folder}/sessions", encoding="ascii") as file:
+        text = file.read()
+    with open(f"{ends.folder}/sessions", "w", encoding="ascii") as file:
+        file.write(text.replace("tom 0 ", "tom 1 "))
+    assert put(ends, "--lines", "tom", given=b"c\n") == (0, "", "")
+    assert ends.sender("--drain").wait(TO_WAIT) == 0
+    receiver = ends.start("receiver", "--store", ends.store, "--shards", "0,1")
+    ends.await_frames(4)
+    assert [it["text"] for it in got(ends)] == ["a", "b", "c"]
+    receiver.send_signal(signal.SIGTERM)
+    assert receiver.wait(TO_WAIT) == 0
+
+
 def test_following(ends):
     """What comes later is printed too, also where there is no store yet."""
     words = [sys.executable, MODULE, "get", "--store", ends.store, "--follow", "--count", "3"]
@@ -161,6 +207,9 @@ def test_status_in_json(ends):
         == (0, 2, 2, 0, 2, False, [])
     assert told["sessions"]["nobody"]["texts"] == 1 and told["sessions"]["nobody"]["waits"][0].startswith("stopped since")
     assert told["shards"]["0"]["end"] is None
+    ends.run("outbox", "DELETE FROM text WHERE session = 'nobody'")
+    done = subprocess.run([STATUS, "--standing", *words[2:4]], check=False, capture_output=True, text=True, timeout=TO_WAIT)
+    assert (done.returncode, "nobody" in done.stdout) == (1, True), "a name that stands without texts, too"
     def heeds_interrupts():
         signal.signal(signal.SIGINT, signal.SIG_DFL)    # which a job in the background ignores
     with subprocess.Popen([*words, "--watch", "0.1"], stdout=subprocess.PIPE, text=True,

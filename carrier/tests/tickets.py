@@ -379,6 +379,25 @@ def client_later(place):
     place.await_delivered()
 
 
+def trusted_realm(place):
+    """A client of the same name in another realm, of which this one takes tickets, isn't the client that is allowed."""
+    place.put(streams_of(place))
+    status, log = place.run("sender", "--drain")
+    place.require(status == 0, f"sender: {log[-300:]}")
+    other = realms.Realm(f"{place.folder}/elsewhere", name="ELSEWHERE.TEST")
+    try:
+        other.is_trusted_by(place.realm)
+        opening = place.make("good", keytab=other.path("sender.keytab"), client=f"{realms.SENDER}@{other.name}",
+                             service=f"{realms.SERVICE}@{place.realm.name}", realm=other)
+    finally:
+        other.stop()
+    place.insert([opening], 1000)
+    receiver = place.start("receiver")
+    place.require(place.wait(lambda: place.refused(receiver, "OPENING_CLIENT"), 5), "not refused")
+    place.await_delivered()
+    place.require(opening[0] not in place.opened(), f"opened: {place.opened()}")
+
+
 def clocks_apart(place):
     """The receiver's clock is an hour ahead at first, by a clockskew of five minutes."""
     place.env = place.realm.environment(place.realm.config(f"{place.folder}/krb5.conf", 300))
@@ -1061,6 +1080,7 @@ CASES = (
     Case(key_later, "the receiver's keytab comes later", {"orders": 20, "bills": 20}, 20),
     Case(new_key_of_service, "the service's new key isn't in the keytab yet", {"orders": 20}, 20),
     Case(client_later, "the client is allowed later", {"orders": 20}, 20),
+    Case(trusted_realm, "a client of the same name in a realm that is trusted", {"orders": 20}, 20),
     Case(clocks_apart, "the receiver's clock is an hour ahead at first", {"orders": 20}, 20),
     Case(ticket_ended, "the ticket has ended when its opening is read", {"tom": 1}, 15, (repro.TOM,)),
     Case(two_clients, "two clients have a stream of one name", {}, 20),

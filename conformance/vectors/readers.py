@@ -77,8 +77,7 @@ def library_at(prefix: str | None, program: str) -> Library:
     """The library at a prefix, or the one that c/library has built."""
     if prefix:
         return Library(pathlib.Path(prefix, "include"), pathlib.Path(prefix, "lib"), program)
-    return Library(pathlib.Path(building.TOP, "c"),
-                   pathlib.Path(building.folder_of("krb_c"), "out", "c_library"), program)
+    return Library(pathlib.Path(building.TOP, "c"), pathlib.Path(building.C_LIBRARY), program)
 
 
 @dataclasses.dataclass(frozen=True)

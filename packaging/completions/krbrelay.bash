@@ -6,7 +6,8 @@ _krbrelay() {
         *-show---key) words= ;;
         *-show---etype) words='17 18' ;;
         *-show-*) words='--any --key --etype -h --help' ;;
-        2-vectors-* | 2-seal-* | 2-open-* | 2-relay-*) words='-h --help' ;;
+        *-open-*) words='--plain -h --help' ;;
+        2-vectors-* | 2-seal-* | 2-relay-*) words='-h --help' ;;
         *) words= ;;
     esac
     mapfile -t COMPREPLY < <(compgen -W "$words" -- "$word")

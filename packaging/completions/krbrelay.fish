@@ -7,5 +7,6 @@ complete -c krbrelay -n __fish_use_subcommand -f -a relay -d "Relays the texts o
 complete -c krbrelay -n '__fish_seen_subcommand_from show' -f -l any -d 'reads digits with separators between them, and one message over several lines'
 complete -c krbrelay -n '__fish_seen_subcommand_from show' -r -l key -d 'a file with the key: digits or bytes, 16 bytes or 32'
 complete -c krbrelay -n '__fish_seen_subcommand_from show' -x -l etype -a '17 18' -d "the key's encryption type, 17 or 18; by default that of its size"
+complete -c krbrelay -n '__fish_seen_subcommand_from open' -f -l plain -d 'takes user data as they are, and not as records'
 complete -c krbrelay -s h -l help -d 'Print help'
 complete -c krbrelay -n __fish_use_subcommand -s V -l version -d 'Print version'

@@ -103,6 +103,53 @@ class Judged(enum.IntEnum):
     """It doesn't continue what took effect."""
 
 
+class Found(enum.IntEnum):
+    """What a store has of a shard, beside what is known of it."""
+    SAME = 0
+    AHEAD = 1
+    """It is further: another receiver went on."""
+    BEHIND = 2
+    """It has gone back, as to a copy of before: receipts may have left for what it lost."""
+
+
+class Failure(enum.IntEnum):
+    """Why a frame isn't taken, or a transaction isn't stored."""
+    REFUSED = 1
+    """The effect refuses a text, or the store refuses what one has."""
+    LATER = 2
+    """The effect of a text can't be had now."""
+    FENCED = 3
+    """Another receiver was faster."""
+    FAULT = 4
+    """The store has a fault, or nobody knows whether it is stored."""
+
+
+class Then(enum.IntEnum):
+    """What happens to a transaction after a failure."""
+    STORE = 0
+    """What it has is stored."""
+    AGAIN = 1
+    """Nothing of it is stored, and all is tried again at once."""
+    WAIT = 2
+    """Nothing of it is stored, and all is tried again after a pause."""
+
+
+@dataclass(frozen=True)
+class Load:
+    """What the store has of the shard isn't known."""
+
+
+@dataclass(frozen=True)
+class Wait:
+    """Nothing is to be done before this time, but receipts."""
+    at: int
+
+
+@dataclass(frozen=True)
+class Take:
+    """A transaction of the frames that follow."""
+
+
 @dataclass(frozen=True)
 class Publish:
     """So many frames leave, in order, from this number on."""
@@ -151,6 +198,12 @@ class Receipt:
     number: int
     history: bytes
     asks: Asks = Asks.NOTHING
+
+
+class Due(NamedTuple):
+    """A receipt that leaves now, of the session at this place."""
+    place: int
+    receipt: Receipt
 
 
 class Stored(NamedTuple):
@@ -578,9 +631,8 @@ class Receiving(Turns):
         super().__init__()
         self._library, self._struct = library(), ReceivingStruct()
         self._at = byref(self._struct)
-        struct = RowStruct(_number("the number", row.number), _digest(row.history),
-                           flag("closed", row.closed))
-        called(self._library.krbrelay_receiving_load, self._at, byref(struct), _number("now", now))
+        called(self._library.krbrelay_receiving_load, self._at, byref(_row_struct(row)),
+               _number("now", now))
 
     @in_turn
     def take(self, frame: Bytes, *, accepted: bool, is_close: bool = False,
@@ -592,11 +644,10 @@ class Receiving(Turns):
         content = bytes_of("the frame", frame)
         if self._struct.drafted.number == NEVER:
             raise ValueError(f"the number {NEVER} has none after it")
-        seen = SeenStruct(_number("opened", number_or_0(opened)), opened is not None,
-                          flag("accepted", accepted), flag("is_close", is_close))
         outcome = c_uint32()
         check(self._library.krbrelay_receiving_take(
-            self._at, content, len(content), byref(seen), byref(outcome)))
+            self._at, content, len(content), byref(_seen(accepted, is_close, opened)),
+            byref(outcome)))
         return Outcome(outcome.value)
 
     @in_turn
@@ -616,9 +667,7 @@ class Receiving(Turns):
         struct = ReceiptStruct()
         check(self._library.krbrelay_receiving_receipt(
             self._at, _number("now", now), byref(struct)))
-        if struct.asks == 0:
-            return None
-        return Receipt(struct.number, bytes(struct.history), Asks(struct.asks))
+        return _receipt_of(struct) if struct.asks else None
 
     @property
     @in_turn
@@ -638,6 +687,20 @@ class Receiving(Turns):
 
 def _row_of(struct: RowStruct) -> Row:
     return Row(struct.number, bytes(struct.history), bool(struct.closed))
+
+
+def _row_struct(row: Row) -> RowStruct:
+    return RowStruct(_number("the number", row.number), _digest(row.history),
+                     flag("closed", row.closed))
+
+
+def _seen(accepted: bool, is_close: bool, opened: Optional[int]) -> SeenStruct:
+    return SeenStruct(_number("opened", number_or_0(opened)), opened is not None,
+                      flag("accepted", accepted), flag("is_close", is_close))
+
+
+def _receipt_of(struct: ReceiptStruct) -> Receipt:
+    return Receipt(struct.number, bytes(struct.history), Asks(struct.asks))
 
 
 class Reading(Turns):
@@ -678,6 +741,159 @@ class Reading(Turns):
     def read(self) -> Spot:
         """Up to where it is read: the transaction under way stores it."""
         return Spot(self._struct.read.list, self._struct.read.offset)
+
+
+class Shard(Turns):
+    """A shard at a receiver with all its sessions: one transaction after another, what is tried
+    again and when, and which receipt leaves. A session is its place, which `add` tells; IndexError
+    where the shard has none there. Nothing is loaded at first.
+
+    `are_outside` says that no rollback of the store undoes what effects did, and `put_aside` that a
+    text that is refused too often is put aside. MemoryError.
+    """
+
+    def __init__(self, *, are_outside: bool = False, put_aside: bool = False) -> None:
+        super().__init__()
+        self._library, self._struct, self._count = library(), HandleStruct(), 0
+        self._at = byref(self._struct)
+        weakref.finalize(self, _free, self._library.krbrelay_shard_free, self._struct)
+        check(called(self._library.krbrelay_shard_new, self._at, flag("are_outside", are_outside),
+                     flag("put_aside", put_aside)))
+
+    def _place(self, place: int) -> int:
+        if not 0 <= ranged("the place", place, 0, 2**32 - 1) < self._count:
+            raise IndexError(f"there is no session at {place}: the shard has {self._count}")
+        return place
+
+    @in_turn
+    def loaded(self, stored: Spot) -> None:
+        """The store has this of the shard. It has no sessions then."""
+        check(self._library.krbrelay_shard_loaded(
+            self._at, _number("the list", stored.list), _number("the offset", stored.offset)))
+        self._count = 0
+
+    @in_turn
+    def listed(self, list_now: int, last: int) -> bool:
+        """The carrier has this list, with so many items: whether it isn't what was read. Of another
+        list all is read, and of one that was cut off what comes after its end."""
+        is_elsewhere = c_uint32()
+        check(self._library.krbrelay_shard_listed(
+            self._at, _number("the list", list_now), _number("the last offset", last),
+            byref(is_elsewhere)))
+        return bool(is_elsewhere.value)
+
+    @in_turn
+    def found(self, stored: Spot) -> Found:
+        """The store has this of the shard now. Unless it is the same, the next turn loads."""
+        found = c_uint32()
+        check(self._library.krbrelay_shard_found(
+            self._at, _number("the list", stored.list), _number("the offset", stored.offset),
+            byref(found)))
+        return Found(found.value)
+
+    @in_turn
+    def forget(self) -> None:
+        """The next turn loads, as where the carrier has another list, or a file was replaced."""
+        check(self._library.krbrelay_shard_forget(self._at))
+
+    @in_turn
+    def add(self, row: Row) -> int:
+        """One session more, of which the store has this row: its place. ValueError, TypeError,
+        MemoryError."""
+        place = c_uint32()
+        check(called(self._library.krbrelay_shard_add, self._at, byref(_row_struct(row)),
+                     byref(place)))
+        self._count += 1
+        return place.value
+
+    @in_turn
+    def rows(self, place: int) -> Tuple[Row, Row]:
+        """What is stored of the session, and what the transaction under way stores."""
+        struct = ReceivingStruct()
+        check(self._library.krbrelay_shard_session(self._at, self._place(place), byref(struct)))
+        return _row_of(struct.stored), _row_of(struct.drafted)
+
+    @in_turn
+    def turn(self, now: int) -> Union[Load, Wait, Take]:
+        """What is to be done next."""
+        told, at = c_uint32(), c_uint64()
+        check(self._library.krbrelay_shard_turn(
+            self._at, _number("now", now), byref(told), byref(at)))
+        return (Load(), Wait(at.value), Take())[told.value]
+
+    @property
+    @in_turn
+    def next_time(self) -> int:
+        """When there is a receipt or a turn, if nothing happens before and no frame comes."""
+        found: int = self._library.krbrelay_shard_next_time(self._at)
+        return found
+
+    @property
+    @in_turn
+    def read(self) -> Spot:
+        """Up to where the list was taken."""
+        struct = ReadingStruct()
+        check(self._library.krbrelay_shard_reading(self._at, byref(struct)))
+        return Spot(struct.read.list, struct.read.offset)
+
+    @in_turn
+    def begin(self, first: int, now: int) -> bool:
+        """A transaction begins, whose first frame has this offset: whether it has that frame alone.
+        ValueError while one is under way."""
+        is_alone = c_uint32()
+        check(self._library.krbrelay_shard_begin(
+            self._at, _number("the offset", first), _number("now", now), byref(is_alone)))
+        return bool(is_alone.value)
+
+    @in_turn
+    def take(self, place: int, frame: Bytes, offset: int, *, accepted: bool, is_close: bool = False,
+             opened: Optional[int] = None) -> Outcome:
+        """The transaction has this frame of a session: what it is taken for, as of
+        `Receiving.take`. ValueError where none is under way. MemoryError."""
+        content, outcome = bytes_of("the frame", frame), c_uint32()
+        check(self._library.krbrelay_shard_take(
+            self._at, self._place(place), content, len(content),
+            byref(_seen(accepted, is_close, opened)), _number("the offset", offset),
+            byref(outcome)))
+        return Outcome(outcome.value)
+
+    @in_turn
+    def pass_by(self, offset: int) -> None:
+        """The transaction has the frame of this offset, which is no session's."""
+        check(self._library.krbrelay_shard_pass(self._at, _number("the offset", offset)))
+
+    @in_turn
+    def is_full(self, now: int) -> bool:
+        """Whether the transaction takes no frame more."""
+        return bool(self._library.krbrelay_shard_is_full(self._at, _number("now", now)))
+
+    @in_turn
+    def stored(self) -> None:
+        """The transaction is stored, up to the last frame that it has."""
+        check(self._library.krbrelay_shard_stored(self._at))
+
+    @in_turn
+    def failed(self, failure: Failure, offset: int) -> Then:
+        """The frame of this offset isn't taken, or the transaction that ends with it isn't stored:
+        what happens to it."""
+        then = c_uint32()
+        check(self._library.krbrelay_shard_failed(
+            self._at, Failure(failure), _number("the offset", offset), byref(then)))
+        return Then(then.value)
+
+    @in_turn
+    def receipt(self, now: int) -> Optional[Due]:
+        """The receipt that leaves now, if one does."""
+        place, struct = c_uint32(), ReceiptStruct()
+        check(self._library.krbrelay_shard_receipt(
+            self._at, _number("now", now), byref(place), byref(struct)))
+        return Due(place.value, _receipt_of(struct)) if struct.asks else None
+
+    @in_turn
+    def unpaid(self, due: Due) -> None:
+        """This receipt didn't leave: it is owed again."""
+        check(self._library.krbrelay_shard_unpaid(
+            self._at, self._place(due.place), Asks(due.receipt.asks)))
 
 
 def judge(head: Optional[Head], opening: Opening) -> Judged:

@@ -42,8 +42,8 @@ class LibraryError(OSError):
 # ---- the structs of krbrelay.h
 
 class HandleStruct(ctypes.Structure):
-    """struct krbrelay_sealer, krbrelay_opener, krbrelay_receiver, krbrelay_peer, krbrelay_lane and
-    krbrelay_queue, which are alike."""
+    """struct krbrelay_sealer, krbrelay_opener, krbrelay_receiver, krbrelay_peer, krbrelay_lane,
+    krbrelay_shard and krbrelay_queue, which are alike."""
     _fields_ = [("at", c_void_p), ("count", c_size_t)]
 
 
@@ -310,6 +310,26 @@ CALLS: Dict[str, Tuple[Any, List[Any]]] = {
     "krbrelay_lane_release": (c_uint32, [_HANDLE, c_uint32]),
     "krbrelay_lane_listed": (c_uint32, [_HANDLE, c_uint32, c_uint64]),
     "krbrelay_lane_free": (None, [_HANDLE]),
+    "krbrelay_shard_new": (c_uint32, [_HANDLE, c_uint32, c_uint32]),
+    "krbrelay_shard_loaded": (c_uint32, [_HANDLE, c_uint64, c_uint64]),
+    "krbrelay_shard_listed": (c_uint32, [_HANDLE, c_uint64, c_uint64, _FLAG]),
+    "krbrelay_shard_found": (c_uint32, [_HANDLE, c_uint64, c_uint64, _FLAG]),
+    "krbrelay_shard_forget": (c_uint32, [_HANDLE]),
+    "krbrelay_shard_reading": (c_uint32, [_HANDLE, POINTER(ReadingStruct)]),
+    "krbrelay_shard_add": (c_uint32, [_HANDLE, POINTER(RowStruct), _FLAG]),
+    "krbrelay_shard_session": (c_uint32, [_HANDLE, c_uint32, POINTER(ReceivingStruct)]),
+    "krbrelay_shard_turn": (c_uint32, [_HANDLE, c_uint64, _FLAG, POINTER(c_uint64)]),
+    "krbrelay_shard_next_time": (c_uint64, [_HANDLE]),
+    "krbrelay_shard_begin": (c_uint32, [_HANDLE, c_uint64, c_uint64, _FLAG]),
+    "krbrelay_shard_take":
+        (c_uint32, [_HANDLE, c_uint32, *_BYTES, POINTER(SeenStruct), c_uint64, _FLAG]),
+    "krbrelay_shard_pass": (c_uint32, [_HANDLE, c_uint64]),
+    "krbrelay_shard_is_full": (c_uint32, [_HANDLE, c_uint64]),
+    "krbrelay_shard_stored": (c_uint32, [_HANDLE]),
+    "krbrelay_shard_failed": (c_uint32, [_HANDLE, c_uint32, c_uint64, _FLAG]),
+    "krbrelay_shard_receipt": (c_uint32, [_HANDLE, c_uint64, _FLAG, POINTER(ReceiptStruct)]),
+    "krbrelay_shard_unpaid": (c_uint32, [_HANDLE, c_uint32, c_uint32]),
+    "krbrelay_shard_free": (None, [_HANDLE]),
     "krbrelay_message_header": (c_uint32, [*_BYTES, POINTER(HeaderStruct)]),
     "krbrelay_check_session": (c_uint32, [POINTER(SessionStruct)]),
     "krbrelay_check_expect": (c_uint32, [POINTER(ExpectStruct)]),
@@ -359,7 +379,7 @@ def places() -> Iterator[str]:
     """Where the shared object may be, the first place first."""
     package = pathlib.Path(__file__).resolve().parent
     yield from in_folder(str(package))
-    yield str(package.parents[1] / "crates" / "krb_c" / "out" / "c_library" / NAME)
+    yield str(package.parents[1] / "out" / "c_library" / NAME)
     folder = pkg_config_folder()
     if folder is not None:
         yield from in_folder(folder)

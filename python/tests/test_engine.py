@@ -4,9 +4,9 @@ import unittest
 
 from krbrelay import History
 from krbrelay.engine import (
-    NEVER, Asks, Ended, Flow, Head, Heard, Held, Idle, Judged, Lane, Opening, Outcome, Pause, Probe,
-    Publish, Queue, Read, Reading, Receipt, Receiving, Row, Sending, Served, Spot, Stands, Stored,
-    Wake, judge)
+    NEVER, Asks, Due, Ended, Failure, Flow, Found, Head, Heard, Held, Idle, Judged, Lane, Load, Opening,
+    Outcome, Pause, Probe, Publish, Queue, Read, Reading, Receipt, Receiving, Row, Sending, Served,
+    Shard, Spot, Stands, Stored, Take, Then, Wait, Wake, judge)
 
 OWN, OTHER, NONE = bytes([1]) * 20, bytes([2]) * 20, bytes(20)
 
@@ -164,6 +164,63 @@ class Receivers(unittest.TestCase):
         self.assertEqual((reading.frames(6, 9, 2), reading.read), (Read.ELSEWHERE, Spot(6, 0)))
         with self.assertRaises(ValueError):
             Reading(Spot(5, 10)).frames(5, 10, NEVER - 9)
+
+    def shard(self, **options):
+        """A shard with two sessions at offset 4 of list 7."""
+        shard = Shard(**options)
+        self.assertEqual(shard.turn(1_000), Load())
+        shard.loaded(Spot(7, 4))
+        self.assertEqual((shard.listed(7, 20), shard.read, shard.turn(1_000)), (False, Spot(7, 4), Take()))
+        self.assertEqual((shard.add(Row(7)), shard.add(Row(9)), shard.next_time), (0, 1, NEVER))
+        return shard
+
+    def test_a_shard_with_its_sessions(self):
+        shard, history = self.shard(), History()
+        self.assertFalse(shard.begin(5, 1_000))
+        self.assertEqual(shard.take(0, b"a", 5, accepted=True), Outcome.ACCEPTED)
+        self.assertEqual(shard.take(1, b"b", 6, accepted=False, opened=6), Outcome.REPEAT)
+        shard.pass_by(8)
+        history.add(b"a")
+        self.assertEqual(shard.rows(0), (Row(7), Row(8, history.digest)))
+        self.assertEqual([shard.is_full(it) for it in (1_999, 2_000)], [False, True])
+        self.assertIsNone(shard.receipt(1_500))
+        shard.stored()
+        self.assertEqual((shard.read, shard.found(Spot(7, 8))), (Spot(7, 8), Found.SAME))
+        due = {shard.receipt(1_500), shard.receipt(1_500)}
+        self.assertEqual(due, {Due(0, Receipt(8, history.digest)), Due(1, Receipt(9, NONE))})
+        self.assertIsNone(shard.receipt(1_500))
+        shard.unpaid(Due(1, Receipt(9, NONE)))
+        self.assertEqual((shard.next_time, shard.receipt(1_700)), (1_700, Due(1, Receipt(9, NONE))))
+        self.assertEqual(shard.found(Spot(7, 7)), Found.BEHIND)
+        self.assertEqual(shard.turn(2_000), Load())
+
+    def test_a_transaction_that_fails(self):
+        shard = self.shard()
+        self.assertFalse(shard.begin(5, 1_000))
+        shard.take(0, b"a", 5, accepted=True)
+        self.assertEqual((shard.failed(Failure.REFUSED, 6), shard.rows(0)), (Then.AGAIN, (Row(7), Row(7))))
+        self.assertEqual((shard.begin(6, 1_000), shard.failed(Failure.LATER, 6)), (True, Then.WAIT))
+        self.assertEqual([shard.turn(it) for it in (1_199, 1_200)], [Wait(1_200), Take()])
+        self.assertEqual((shard.failed(Failure.FAULT, 4), shard.turn(1_600)), (Then.WAIT, Load()))
+        shard = self.shard(are_outside=True)
+        shard.begin(5, 1_000)
+        shard.take(0, b"a", 5, accepted=True)
+        self.assertEqual(shard.failed(Failure.LATER, 6), Then.STORE)
+        shard.stored()
+        self.assertEqual((shard.read, shard.listed(8, 3), shard.read), (Spot(7, 5), True, Spot(8, 0)))
+        shard.forget()
+        self.assertEqual(shard.turn(1_000), Load())
+
+    def test_what_a_shard_refuses(self):
+        shard = self.shard()
+        for wrong in (lambda: shard.rows(2), lambda: shard.unpaid(Due(2, Receipt(1, NONE)))):
+            with self.assertRaises(IndexError):
+                wrong()
+        for wrong in (lambda: shard.pass_by(5), lambda: shard.take(0, b"", 5, accepted=True),
+                      lambda: shard.failed(5, 5), lambda: shard.unpaid(Due(0, Receipt(1, NONE, 0))),
+                      lambda: shard.add(Row(-1))):
+            with self.assertRaises(ValueError):
+                wrong()
 
     def test_openings(self):
         head = Head(3, 9, OWN, True)

@@ -37,6 +37,14 @@ def lane_of_many():
         lane.add(STORED)
 
 
+def shard_of_many():
+    shard = engine.Shard()
+    for _ in range(8):
+        shard.add(engine.Row(1))
+    shard.begin(1, 0)
+    shard.take(0, b"a frame", 1, accepted=True)
+
+
 STORED = engine.Stored(next=5, carried=0, at=0, done=0, list=1)
 # Of each class whose values have a struct of the library's, one that is made and let go of, with as much as it keeps on
 # the heap.
@@ -47,6 +55,7 @@ LET_GO = {
     engine.Lane: lane_of_many,
     engine.Flow: engine.Flow,
     engine.Receiving: lambda: engine.Receiving(engine.Row(1), 0),
+    engine.Shard: shard_of_many,
     engine.Reading: lambda: engine.Reading(engine.Spot(1, 0)),
     krbrelay.Window: krbrelay.Window,
     krbrelay.History: krbrelay.History,

@@ -72,10 +72,9 @@ class Places(unittest.TestCase):
                          f"{place} (1, 1, 0)")
 
     def test_where_the_repository_builds_it(self):
-        place = self.copy_to(f"site/crates/krb_c/out/c_library/{library.NAME}")
+        place = self.copy_to(f"site/out/c_library/{library.NAME}")
         self.assertEqual(self.says(), f"{place} (1, 1, 0)")
-        self.assertIn(os.path.join(TOP, "crates", "krb_c", "out", "c_library", library.NAME),
-                      library.places())
+        self.assertIn(os.path.join(TOP, "out", "c_library", library.NAME), library.places())
 
     @unittest.skipUnless(shutil.which("pkg-config"), "there is no pkg-config here")
     def test_by_pkg_config(self):

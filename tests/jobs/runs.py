@@ -82,13 +82,13 @@ class Runs:
             return [{**it, "mode": mode} for it in types for mode in MODES]
         return types if row.get("types") else [self.table["wide"] if row.get("wide") else {}]
 
-    def whole(self, command, row):
+    def whole(self, command, row, option=()):
         """The run of a row, with few places in a lane and with many."""
         text = "".join(f"{self.filled(line)}\n" for line in row["lines"]).encode()
         for other in self.others(row):
             job = self.job(command, row.get("changes"), other)
             for places in PLACES:
-                self.add(f"{command} of {row['name']}, {kind_of(other)}{places} places", [command],
+                self.add(f"{command} of {row['name']}, {kind_of(other)}{places} places", [command, *option],
                          f"capacity = {places}\n{job}".encode(), row.get("status", 0), text)
 
     def refused(self, frame, changes, refusal):
@@ -102,6 +102,8 @@ class Runs:
         for command in ("seal", "open", "relay"):
             for row in self.table[command]:
                 self.whole(command, row)
+        for row in self.table["plain"]:
+            self.whole("open", row, ["--plain"])
         for row in self.table["refused"]:
             self.refused(row["frame"], row.get("changes", {}), row["refusal"])
 
@@ -170,12 +172,14 @@ class Runs:
         return self.job("open", [{"frames": f"{list(frames)}"}], other).encode()
 
     def opened(self):
-        """Each frame alone has its outcome."""
+        """Each frame alone has its outcome, and the same refusal where the record is taken as it is."""
         for row in self.table["opened"]:
+            plain = row["outcome"].replace("text 6869", "data 446869")
             for frame in row["frames"]:
-                self.add(f"open of {frame:.30}, {row.get('changes', '')}", ["open"],
-                         self.single(row, [self.filled(frame)]), 3,
-                         f"lane 0 {row['outcome']}\nlane 0 TRUNCATED\n".encode())
+                name, job = f"of {frame:.30}, {row.get('changes', '')}", self.single(row, [self.filled(frame)])
+                self.add(f"open {name}", ["open"], job, 3, f"lane 0 {row['outcome']}\nlane 0 TRUNCATED\n".encode())
+                self.add(f"open --plain {name}", ["open", "--plain"], job, 0 if plain[0] == "d" else 2,
+                         f"lane 0 {plain}\n".encode())
 
     def cut(self):
         """Each prefix of a frame, and lengths that lie."""

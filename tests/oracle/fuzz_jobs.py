@@ -186,14 +186,19 @@ def plan(dice, sent):
     return disturbed(dice, found)
 
 
-def open_job(dice):
+def open_job(dice, lines_of=opener.open_lines):
     """A job for `open`, its lines, and how many frames it has."""
     sent = sender(dice, 6)
     came, moments = wire(dice, sent), nows(dice, sent)
     told = 1 if dice.random() < 0.01 else None    # a batch is no key for `open`
     text = jobs.job([jobs.sender(sent.session, moments, frames=came, batch=told)])
-    lines = opener.open_lines(sent.session, moments, came)
+    lines = lines_of(sent.session, moments, came)
     return text, [bad_input(0, "batch")] if told else lines, len(came)
+
+
+def plain_job(dice):
+    """The same for `open --plain`."""
+    return open_job(dice, opener.plain_lines)
 
 
 def batch_key(dice, sent):

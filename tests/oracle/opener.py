@@ -143,6 +143,8 @@ class Receiver:
     """Takes the frames of a sender, each at the timestamp of its place; the last serves all later
     ones."""
 
+    WORD = "text"
+
     def __init__(self, session, nows):
         self.session, self.nows = session, nows
         self.expected, self.closed, self.place = session.first, False, 0
@@ -158,7 +160,7 @@ class Receiver:
             return [f"refused {code} {NAMES[code]}"]
         self.expected += 1
         self.closed = texts is None
-        return ["closed"] if texts is None else [f"text {text.hex()}" for text in texts]
+        return ["closed"] if texts is None else [f"{self.WORD} {text.hex()}" for text in texts]
 
     def accepted(self, frame, now):
         """The texts of the frame, or None for a close."""
@@ -168,6 +170,14 @@ class Receiver:
             return None
         refuse(902, data[:1] not in (b"D", b"B") or len(data) > 1_000_001)
         return [data[1:]] if data[:1] == b"D" else batch_texts(data)
+
+
+class PlainReceiver(Receiver):
+    """Takes user data as they are: nothing is a record."""
+    WORD = "data"
+
+    def accepted(self, frame, now):
+        return [unseal(self.session, self.expected, now, frame)]
 
 
 def batch_texts(data):
@@ -259,6 +269,11 @@ def open_lines(session, nows, wire):
     receiver = Receiver(session, nows)
     lines = [f"lane 0 {line}" for frame in wire for line in receiver.take(frame)]
     return lines + [f"lane 0 {'CLOSED' if receiver.closed else 'TRUNCATED'}"]
+
+
+def plain_lines(session, nows, wire):
+    receiver = PlainReceiver(session, nows)
+    return [f"lane 0 {line}" for frame in wire for line in receiver.take(frame)]
 
 
 def relay_lines(lanes):

@@ -1,6 +1,8 @@
-/* Preloaded: counts what a program asks of the allocator. At the end it writes to the file that COUNT_TO
- * names how often, how many bytes, and the largest block. */
+/* Preloaded: counts what a program asks of the allocator, and its threads. At the end it writes to the file that
+ * COUNT_TO names how often, how many bytes, and the largest block, and how many threads it made. */
 #define _GNU_SOURCE
+#include <dlfcn.h>
+#include <pthread.h>
 #include <stdatomic.h>
 #include <stdio.h>
 #include <stdlib.h>
@@ -10,7 +12,7 @@
 void *__libc_malloc(size_t size);
 void *__libc_realloc(void *block, size_t size);
 
-static atomic_size_t asked, bytes, largest;
+static atomic_size_t asked, bytes, largest, threads;
 
 static void note(size_t size)
 {
@@ -32,14 +34,22 @@ void *realloc(void *block, size_t size)
     return __libc_realloc(block, size);
 }
 
+int pthread_create(pthread_t *thread, const pthread_attr_t *of, void *(*runs)(void *), void *with)
+{
+    int (*make)(pthread_t *, const pthread_attr_t *, void *(*)(void *), void *);
+    *(void **)&make = dlsym(RTLD_NEXT, "pthread_create");
+    threads++;
+    return make(thread, of, runs, with);
+}
+
 __attribute__((destructor)) static void tell(void)
 {
-    size_t told[] = { asked, bytes, largest };
+    size_t told[] = { asked, bytes, largest, threads };
     const char *path = getenv("COUNT_TO");
     FILE *file = path != NULL ? fopen(path, "w") : NULL;
     if (file == NULL)
         return;
-    fprintf(file, "%zu %zu %zu\n", told[0], told[1], told[2]);
+    fprintf(file, "%zu %zu %zu %zu\n", told[0], told[1], told[2], told[3]);
     fclose(file);
 }
 

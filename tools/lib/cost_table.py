@@ -1,6 +1,6 @@
-"""Tables of costs that were measured: a line for each case, with its words, the instructions, and what was
-asked of the allocator. A test compares what it measures with them, so that a loss is seen where it came in.
-Instructions differ a little with the C compiler; what is asked of the allocator doesn't.
+"""Tables of costs that were measured: a line for each case, with its words, the instructions, what was asked of the
+allocator, and what else a table has. A test compares what it measures with them, so that a loss is seen where it
+came in. Instructions differ a little with the C compiler; the others don't.
 """
 import os
 from collections.abc import Iterable
@@ -17,17 +17,15 @@ Table = dict[str, Figures]
 
 def read(path: str) -> Table:
     """The figures by the words of a case, which are joined by tabs."""
-    table = {}
     with open(os.path.join(building.TOP, path), encoding="utf-8") as file:
-        for line in file.read().splitlines()[1:]:
-            *words, instructions, asked, size, largest = line.split("\t")
-            table["\t".join(words)] = (int(instructions), int(asked), int(size), int(largest))
-    return table
+        head, *lines = (line.split("\t") for line in file.read().splitlines())
+    first = head.index(HEAD[0])
+    return {"\t".join(line[:first]): tuple(map(int, line[first:])) for line in lines}
 
 
-def write(path: str, head: Iterable[str], table: Table) -> None:
+def write(path: str, head: Iterable[str], table: Table, more: Iterable[str] = ()) -> None:
     with open(os.path.join(building.TOP, path), "w", encoding="utf-8") as file:
-        file.write("\t".join([*head, *HEAD]) + "\n")
+        file.write("\t".join([*head, *HEAD, *more]) + "\n")
         for words, figures in table.items():
             file.write("\t".join([words, *map(str, figures)]) + "\n")
 
@@ -37,7 +35,7 @@ def is_near(found: int, noted: int, share: float) -> bool:
 
 
 def compare(count: report.Count, path: str, noted: Table, found: Table, share: float = SHARE) -> None:
-    """Each case has about the instructions of its line, and asks the allocator for what stands there."""
+    """Each case has about the instructions of its line, and exactly what else stands there."""
     for words in noted.keys() - found.keys():
         count.right(False, f"FAILED {path} has a case that isn't measured: {words}")
     for words, figures in found.items():

@@ -6,6 +6,7 @@ import re
 
 LINES = [
     ("text", re.compile(r"lane (\d+) text ([0-9a-f]*)"), ("text",)),
+    ("data", re.compile(r"lane (\d+) data ([0-9a-f]*)"), ("data",)),
     ("closed", re.compile(r"lane (\d+) closed"), ()),
     ("refused", re.compile(r"lane (\d+) refused (\d+) ([A-Z_]+)"), ("code", "name")),
     ("sent", re.compile(r"lane (\d+) sent (\d+) of (\d+) (DONE|LAST_NUMBER) (CLOSED|TRUNCATED)"),

@@ -30,13 +30,13 @@ TAIL = '''\
 a job for each command, and a message with its key, of the Debian package
 .SH EXAMPLES
 .nf
-krbrelay show \-\-any \-\-key key.hex < captured.hex
+krbrelay show \\-\\-any \\-\\-key key.hex < captured.hex
 krbrelay relay < relay.toml
 krbrelay seal < seal.toml
-krbrelay\-check\-job relay.toml && krbrelay relay < relay.toml
+krbrelay\\-check\\-job relay.toml && krbrelay relay < relay.toml
 .fi
 .SH SEE ALSO
-.BR krbrelay\-check\-job (1),
+.BR krbrelay\\-check\\-job (1),
 which says where a job is at fault,
 .BR krbrelay (3),
 .BR krbrelay (7)

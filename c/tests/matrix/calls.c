@@ -306,6 +306,7 @@ static struct krbrelay_flow flow;
 static struct krbrelay_pause pause;
 static struct krbrelay_queue none_wait;
 static struct krbrelay_lane no_sessions;
+static struct krbrelay_shard no_shard;
 
 static uint32_t sending_load(void)
 {
@@ -437,6 +438,74 @@ static uint32_t lane_next_time(void)
     return krbrelay_lane_next_time(&no_sessions) == UINT64_MAX ? KRBRELAY_OK : KRBRELAY_ARGUMENT;
 }
 
+/* Of a shard of its own, which asks for its block. */
+static uint32_t shard_new(void)
+{
+    struct krbrelay_shard shard = KRBRELAY_INIT;
+    uint32_t answer = krbrelay_shard_new(&shard, 0, 0);
+    krbrelay_shard_free(&shard);
+    return answer;
+}
+
+/* One in which a transaction is under way, of one session. */
+static enum krbrelay_answer begun(struct krbrelay_shard *shard)
+{
+    static const struct krbrelay_row row;
+    uint32_t told_now;
+    enum krbrelay_answer answer = krbrelay_shard_new(shard, 0, 0);
+    if (answer == KRBRELAY_OK)
+        answer = krbrelay_shard_add(shard, &row, &told_now);
+    if (answer == KRBRELAY_OK)
+        answer = krbrelay_shard_begin(shard, 0, 0, &told_now);
+    return answer;
+}
+
+static uint32_t shard_add(void)
+{
+    struct krbrelay_shard shard = KRBRELAY_INIT;
+    uint32_t answer = begun(&shard);
+    krbrelay_shard_free(&shard);
+    return answer;
+}
+
+static uint32_t shard_take(void)
+{
+    static const struct krbrelay_seen seen = { .accepted = 1 };
+    struct krbrelay_shard shard = KRBRELAY_INIT;
+    enum krbrelay_answer answer = begun(&shard);
+    if (answer == KRBRELAY_OK)
+        answer = krbrelay_shard_take(&shard, 0, given.body, given.body_len, &seen, 0, &told.kind);
+    krbrelay_shard_free(&shard);
+    return answer;
+}
+
+/* Of a handle without one: they refuse, and ask for nothing. */
+static uint32_t shard_loaded(void) { return refuses(krbrelay_shard_loaded(&no_shard, 0, 0)); }
+static uint32_t shard_listed(void) { return refuses(krbrelay_shard_listed(&no_shard, 0, 0, &told.kind)); }
+static uint32_t shard_found(void) { return refuses(krbrelay_shard_found(&no_shard, 0, 0, &told.kind)); }
+static uint32_t shard_forget(void) { return refuses(krbrelay_shard_forget(&no_shard)); }
+static uint32_t shard_reading(void) { return refuses(krbrelay_shard_reading(&no_shard, &reading)); }
+static uint32_t shard_session(void) { return refuses(krbrelay_shard_session(&no_shard, 0, &receiving)); }
+static uint32_t shard_turn(void) { return refuses(krbrelay_shard_turn(&no_shard, 0, &told.kind, &told.number)); }
+static uint32_t shard_begin(void) { return refuses(krbrelay_shard_begin(&no_shard, 0, 0, &told.kind)); }
+static uint32_t shard_pass(void) { return refuses(krbrelay_shard_pass(&no_shard, 0)); }
+static uint32_t shard_is_full(void) { return krbrelay_shard_is_full(&no_shard, 0) == 0 ? KRBRELAY_OK : KRBRELAY_ARGUMENT; }
+static uint32_t shard_stored(void) { return refuses(krbrelay_shard_stored(&no_shard)); }
+static uint32_t shard_failed(void) { return refuses(krbrelay_shard_failed(&no_shard, KRBRELAY_FAILURE_FAULT, 0, &told.kind)); }
+static uint32_t shard_unpaid(void) { return refuses(krbrelay_shard_unpaid(&no_shard, 0, KRBRELAY_ASKS_NOTHING)); }
+static uint32_t shard_free(void) { krbrelay_shard_free(&no_shard); return KRBRELAY_OK; }
+
+static uint32_t shard_receipt(void)
+{
+    struct krbrelay_receipt it;
+    return refuses(krbrelay_shard_receipt(&no_shard, 0, &told.kind, &it));
+}
+
+static uint32_t shard_next_time(void)
+{
+    return krbrelay_shard_next_time(&no_shard) == UINT64_MAX ? KRBRELAY_OK : KRBRELAY_ARGUMENT;
+}
+
 static uint32_t queue_serve(void) { return krbrelay_queue_serve(&none_wait, &told.kind); }
 static uint32_t queue_len(void) { return krbrelay_queue_len(&none_wait) == 0 ? KRBRELAY_OK : KRBRELAY_ARGUMENT; }
 static uint32_t queue_free(void) { krbrelay_queue_free(&none_wait); return KRBRELAY_OK; }
@@ -500,6 +569,15 @@ struct call calls[] = {
     NONE(lane_next_time, NO_HANDLE), NONE(lane_sealed, NO_HANDLE), NONE(lane_confirmed, NO_HANDLE),
     NONE(lane_receipt, NO_HANDLE), NONE(lane_stop, NO_HANDLE), NONE(lane_release, NO_HANDLE),
     NONE(lane_free, NO_HANDLE),
+    ROW(shard_new, KEEPS_NOTHING, NO_HANDLE, OF_DATA, 0, 0, 0),
+    ROW(shard_add, KEEPS_NOTHING, NO_HANDLE, OF_DATA, 0, 0, 0),
+    ROW(shard_take, KEEPS_NOTHING, NO_HANDLE, OF_DATA, 0, 0, 0),
+    NONE(shard_loaded, NO_HANDLE), NONE(shard_listed, NO_HANDLE), NONE(shard_found, NO_HANDLE),
+    NONE(shard_forget, NO_HANDLE), NONE(shard_reading, NO_HANDLE), NONE(shard_session, NO_HANDLE),
+    NONE(shard_turn, NO_HANDLE), NONE(shard_next_time, NO_HANDLE), NONE(shard_begin, NO_HANDLE),
+    NONE(shard_pass, NO_HANDLE), NONE(shard_is_full, NO_HANDLE), NONE(shard_stored, NO_HANDLE),
+    NONE(shard_failed, NO_HANDLE), NONE(shard_receipt, NO_HANDLE), NONE(shard_unpaid, NO_HANDLE),
+    NONE(shard_free, NO_HANDLE),
     ROW(queue_ready, KEEPS_NOTHING, NO_HANDLE, OF_DATA, 0, 0, 0),
 };
 const int call_count = sizeof calls / sizeof *calls;

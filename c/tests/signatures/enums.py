@@ -34,6 +34,11 @@ STANDS = {"NOT": {}, "OLDER": {ENDED: 1}, "FORKED": {ENDED: 2}, "REFUSED": {HELD
           "UNCONFIRMED": {NEXT: 1, SENT: 1, AGAIN: 2001}}
 READS = {"NOTHING": (0, 0), "ELSEWHERE": (1, 0), "TAKE": (0, 1)}      # the list, and how many
 JUDGED = {"BEGINS": (0, 1), "LATER": (0, 2), "FORKED": (1, 1)}       # the last turn, and the opening's
+# Whether what the store has is known, and how a transaction failed; the list and the offset that a store has where 7 and 4
+# are known; and the failure of a transaction with a frame, and whether effects are outside of the store.
+TURNS = {"LOAD": (False, 0), "WAIT": (True, 2), "READ": (True, 0)}
+FOUND = {"SAME": (7, 4), "AHEAD": (7, 5), "BEHIND": (7, 3)}
+THEN = {"STORE": (1, 1), "AGAIN": (3, 0), "WAIT": (4, 0)}
 KINDS = {"IPV4": (socket.AF_INET, 16), "IPV6": (socket.AF_INET6, 28)}
 
 
@@ -78,7 +83,11 @@ class Library:
             "heard": {**{name: self.hear({7: 1, **it})[1] for name, it in HEARD.items()}, "AGAIN": self.own(3)[1]},
             "stands": {name: self.stands(it) for name, it in STANDS.items()},
             "read": {name: self.read(*it) for name, it in READS.items()},
-            "judged": {name: self.judge(*it) for name, it in JUDGED.items()}}
+            "judged": {name: self.judge(*it) for name, it in JUDGED.items()},
+            "turn": {name: self.turn(*it) for name, it in TURNS.items()},
+            "found": {name: self.found(*it) for name, it in FOUND.items()},
+            "then": {name: self.then(*it) for name, it in THEN.items()}}
+        self.failures = self.answers(self.fails)
         self.calls.krbrelay_sealer_free(self.sealer)
         self.calls.krbrelay_opener_free(self.opener)
 
@@ -148,6 +157,45 @@ class Library:
                                                   heard)
         self.calls.krbrelay_lane_free(lane)
         return answer, heard[0]
+
+    def shard(self, are_outside: int = 0, is_loaded: bool = True) -> ctypes.Array:
+        """A shard at a receiver, with one session."""
+        shard = numbers_of()
+        self.calls.krbrelay_shard_new(shard, are_outside, 0)
+        if is_loaded:
+            self.calls.krbrelay_shard_loaded(shard, ctypes.c_uint64(7), ctypes.c_uint64(4))
+        self.calls.krbrelay_shard_add(shard, numbers_of(1), numbers_of())
+        return shard
+
+    def turn(self, is_loaded: bool, failure: int) -> int:
+        """What is to be done of a shard, perhaps after a failure."""
+        shard, told = self.shard(is_loaded=is_loaded), numbers_of()
+        self.calls.krbrelay_shard_failed(shard, failure, ctypes.c_uint64(5), numbers_of())
+        self.calls.krbrelay_shard_turn(shard, ctypes.c_uint64(9), told, numbers_of())
+        self.calls.krbrelay_shard_free(shard)
+        return told[0]
+
+    def found(self, of_list: int, offset: int) -> int:
+        shard, told = self.shard(), numbers_of()
+        self.calls.krbrelay_shard_found(shard, ctypes.c_uint64(of_list), ctypes.c_uint64(offset), told)
+        self.calls.krbrelay_shard_free(shard)
+        return told[0]
+
+    def then(self, failure: int, are_outside: int) -> int:
+        """What happens to a transaction with a frame that fails."""
+        shard, told, frame = self.shard(are_outside), numbers_of(), numbers_of(0, 0, 0, 1)
+        self.calls.krbrelay_shard_begin(shard, ctypes.c_uint64(5), ctypes.c_uint64(9), numbers_of())
+        self.calls.krbrelay_shard_take(shard, 0, b"x", ctypes.c_size_t(1), frame, ctypes.c_uint64(5), numbers_of())
+        self.calls.krbrelay_shard_failed(shard, failure, ctypes.c_uint64(6), told)
+        self.calls.krbrelay_shard_free(shard)
+        return told[0]
+
+    def fails(self, failure: int) -> int:
+        """The answer to a failure of this number."""
+        shard = self.shard()
+        answer = self.calls.krbrelay_shard_failed(shard, failure, ctypes.c_uint64(5), numbers_of())
+        self.calls.krbrelay_shard_free(shard)
+        return answer
 
     def stands(self, words: Dict[int, int]) -> int:
         told, other = numbers_of(), numbers_of()
@@ -237,6 +285,9 @@ class Compared:
         self.same("asks", names["asks"], {"NOTHING": 1, "MISSING": 2, "REFUSED": 3}, "all")
         self.taken("own", self.numbers("own").values(), self.library.owns, "ARGUMENT")
         self.same("own", self.numbers("own", "OWN_"), {"KNOWN": 1, "UNKNOWN": 2, "FAULT": 3}, "all")
+        self.taken("failure", self.numbers("failure").values(), self.library.failures, "ARGUMENT")
+        self.same("failure", self.numbers("failure", "FAILURE_"),
+                  {"REFUSED": 1, "LATER": 2, "FENCED": 3, "FAULT": 4}, "all")
         self.same("ended", {names["ended"].get(it) for it in ("OLDER", "FORKED")},
                   {names["stands"].get(it) for it in ("OLDER", "FORKED")}, "an end that stands")
         for enum, theirs in self.library.results.items():

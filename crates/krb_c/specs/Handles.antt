@@ -16,6 +16,8 @@ use Rattle.krb_c.specs.declared.held_lane.HeldLane.{HeldLane}
 use Rattle.krb_c.specs.contracts.held_lane.HeldLane.{the_row as lane_row}
 use Rattle.krb_c.specs.declared.held_queue.HeldQueue.{HeldQueue}
 use Rattle.krb_c.specs.contracts.held_queue.HeldQueue.{the_row as queue_row}
+use Rattle.krb_c.specs.declared.held_shard.HeldShard.{HeldShard}
+use Rattle.krb_c.specs.contracts.held_shard.HeldShard.{the_row as shard_row}
 use Rattle.krb_structs.specs.contracts.wipeable_opener.WipeableOpener.{the_row as opener_row}
 
 abbrev pub owns_sealer : Ptr → ℕ → Option SealerState → Fml
@@ -53,3 +55,9 @@ owns_lane = owns lane_row
 
 abbrev pub lane_coded : Coded (Option HeldLane)
 lane_coded = coded_option lane_row.coded
+
+abbrev pub owns_shard : Ptr → ℕ → Option HeldShard → Fml
+owns_shard = owns shard_row
+
+abbrev pub shard_coded : Coded (Option HeldShard)
+shard_coded = coded_option shard_row.coded

@@ -3,6 +3,7 @@ pub mod Exports
 pub mod Handles
 pub mod Lanes
 pub mod Queue
+pub mod Shards
 pub mod Peers
 pub mod Many
 pub mod Taking

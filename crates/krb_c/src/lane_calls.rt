@@ -114,7 +114,7 @@ pub extern "C" fn krbrelay_lane_reload(
 }
 
 /// 0, or 912.
-fn answer(fits: bool) -> u32
+pub fn answer(fits: bool) -> u32
     ensures { result ≡ (if fits then 0 else 912) }
 {
     if fits { 0 } else { Fault::Argument.code() }

@@ -5,9 +5,9 @@
 //! receiver or a peer on the heap. Each export says of the handle what the function of `krb_structs` says: its
 //! answer is that of the first condition that doesn't hold. The progress of a session's frames
 //! ([`krb_carry::Progress`]) and a window ([`krb_window::Window`]) have no handle: they are numbers of
-//! the caller's. So is all that both ends of a
-//! carrier keep but the queue and a sender's shard (krb_engine and krb_sender, over the structs of krb_carrier_structs). Nor has the history of
-//! a session ([`krb_carry::with_frame`]) a handle, which is bytes of the caller's.
+//! the caller's. So is all that both ends of a carrier keep but the queue and whole shards (krb_engine,
+//! krb_sender and krb_receiver, over the structs of krb_carrier_structs). Nor has the history of a session
+//! ([`krb_carry::with_frame`]) a handle, which is bytes of the caller's.
 //!
 //! A value on the heap, or nothing, as C holds it: a pointer and a count, of which `krb_c` makes a struct for
 //! each kind of value.
@@ -18,6 +18,7 @@ mod handle;
 mod held;
 mod held_lane;
 mod held_queue;
+mod held_shard;
 mod history_calls;
 mod lane_calls;
 mod lane_handle;
@@ -32,6 +33,7 @@ mod peer_handle;
 mod progress_calls;
 mod queue_calls;
 mod queue_handle;
+mod reading_calls;
 mod receiver_calls;
 mod receiver_handle;
 mod receiving_calls;
@@ -39,6 +41,7 @@ mod sealer_calls;
 mod sealer_handle;
 mod sending_calls;
 mod shard_calls;
+mod shard_handle;
 mod taking_calls;
 mod window_calls;
 

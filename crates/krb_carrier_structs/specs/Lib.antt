@@ -6,6 +6,7 @@ pub mod Lane
 pub mod Receipt
 pub mod Sending
 pub mod Receiving
+pub mod Shard
 pub mod Shards
 pub mod Stream
 pub mod Calls

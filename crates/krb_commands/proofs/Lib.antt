@@ -7,6 +7,7 @@ pub mod LinesLemmas
 pub mod OpenedLemmas
 pub mod OutputLemmas
 mod ParsedLemmas
+pub mod PlainLemmas
 pub mod Readings
 pub mod SealedLemmas
 pub mod ShowLemmas

@@ -80,3 +80,10 @@ pub end_joined : (lane k n ending name : List ℕ)
     → codes "lane " ++ (lane ++ (codes " sent " ++ (k ++ (codes " of " ++ (n ++ (codes " " ++ (ending ++ (codes " " ++ (name ++ codes "\n")))))))))
     ≡ codes "lane " ++ lane ++ codes " " ++ (codes "sent " ++ k ++ codes " of " ++ n ++ codes " " ++ ending) ++ codes " " ++ name ++ codes "\n"
 end_joined lane k n ending name = end_after (codes "lane ") lane (codes " ") (codes "sent ") k (codes " of ") n ending name (codes "\n")
+
+plain_after : (front word code space name end : List ℕ) → (front ++ word) ++ (code ++ (space ++ (name ++ end))) ≡ front ++ (word ++ code ++ space ++ name) ++ end
+plain_after front word code space name end = simp append_assoc refl
+
+pub plain_joined : (code name : List ℕ)
+    → codes "lane 0 refused " ++ (code ++ (codes " " ++ (name ++ codes "\n"))) ≡ codes "lane 0 " ++ (codes "refused " ++ code ++ codes " " ++ name) ++ codes "\n"
+plain_joined code name = plain_after (codes "lane 0 ") (codes "refused ") code (codes " ") name (codes "\n")

@@ -8,6 +8,7 @@ use Rattle.krb_job.specs.SenderKeys.{Sender}
 use Rattle.krb_commands.specs.Fault.{bad_plan}
 use Rattle.krb_commands.specs.Sealed.{PrintsSealed, PrintsSealedPrefix}
 use Rattle.krb_commands.specs.Opened.{PrintsFirst, PrintsOpened, PrintsOpenedPrefix}
+use Rattle.krb_commands.specs.Plain.{PrintsPlain, PrintsPlainPrefix}
 use Rattle.krb_commands.specs.Ends.{source_stated, receiver_of}
 use Rattle.krb_commands.specs.Parsed.{Parsed, HasOneSender}
 
@@ -58,3 +59,15 @@ abbrev pub OpensParsedFirst : Parsed → ℕ → Option (List ℕ) → Option (L
 OpensParsedFirst parsed lines old new =
     (sender : Sender) × HasOneSender parsed sender
     × PrintsFirst (receiver_of sender) sender.traffic.nows sender.traffic.frames lines old new
+
+-- the same of user data that are no records
+abbrev pub OpensPlain : Parsed → Option (List ℕ) → Option (List ℕ) → ℕ → Type 0
+OpensPlain parsed old new status =
+    (sender : Sender) × HasOneSender parsed sender
+    × PrintsPlain (receiver_of sender) sender.traffic.nows sender.traffic.frames old new status
+
+abbrev pub OpensPlainPrefix : Parsed → Option (List ℕ) → Option (List ℕ) → Type 0
+OpensPlainPrefix parsed old new =
+    Keeps old new
+    ⊎ ((sender : Sender) × HasOneSender parsed sender
+    × PrintsPlainPrefix (receiver_of sender) sender.traffic.nows sender.traffic.frames old new)

@@ -11,6 +11,7 @@ pub mod Opened
 pub mod OpenersInside
 pub mod Output
 pub mod Parsed
+pub mod Plain
 pub mod Printed
 pub mod Reading
 pub mod Sealed

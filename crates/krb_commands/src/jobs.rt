@@ -15,11 +15,13 @@ ghost use Rattle.krb_commands.specs.Parsed.{Parsed, IsParsed, HasOneSender};
 ghost use Rattle.krb_commands.specs.JobInput.{ReadsInput, PrintsNothing, FailsCheck};
 ghost use Rattle.krb_commands.specs.Jobs.{SealsParsed, SealsParsedPrefix, SealsSender, SealsSenderPrefix, IsBadSender, IsBadToSeal};
 ghost use Rattle.krb_commands.specs.Jobs.{OpensParsed, OpensParsedFirst, OpensParsedPrefix};
+ghost use Rattle.krb_commands.specs.Jobs.{OpensPlain, OpensPlainPrefix};
 
 use crate::ends::{receiving_of, sealer_of, sending_of};
 use crate::fault::Fault;
 use crate::input::read_all;
 use crate::opening::open_job;
+use crate::plain::print_plain;
 use crate::sealing::seal_job;
 use krb_job::{Command, Job, SenderJob, read_job};
 use krb_seal::Sealer;
@@ -108,6 +110,28 @@ pub fn open<R: Read, W: Write>(alloc: Global, reader: &mut R, writer: &mut W) ->
     let sender = one_sender(alloc, reader, Command::Open)?;
     let receiving = receiving_of(alloc, &sender)?;
     open_job(alloc, receiving, sender.frames.as_slice(), writer)
+}
+
+/// Opens the frames of the job's one sender, and takes their user data as they are.
+pub fn open_plain<R: Read, W: Write>(
+    alloc: Global,
+    reader: &mut R,
+    writer: &mut W,
+) -> Result<u8, Fault>
+    ensures printed { (parsed : Parsed) → IsParsed Command.Open (R.remaining reader.old) parsed
+        → IfOk result (OpensPlain parsed (W.contents writer.old) (W.contents writer.new)) }
+
+    ensures reading { ReadsInput Command.Open (R.remaining reader.old) FailsCheck result }
+    ensures nothing { PrintsNothing (W.contents writer.old) (W.contents writer.new) result }
+    ensures never_stopped { (lines : ℕ) → ¬ (result ≡ Err (Fault.Stopped lines)) }
+    ensures no_thread { (lines : ℕ) → ¬ (result ≡ Err (Fault.Thread lines)) }
+    ensures no_key { (key : KeyFault) → ¬ (result ≡ Err (Fault.Key key)) }
+    ensures prefix { (parsed : Parsed) → IsParsed Command.Open (R.remaining reader.old) parsed
+        → OnErr result (OpensPlainPrefix parsed (W.contents writer.old) (W.contents writer.new)) }
+{
+    let sender = one_sender(alloc, reader, Command::Open)?;
+    let receiving = receiving_of(alloc, &sender)?;
+    print_plain(alloc, &receiving, sender.frames.as_slice(), writer)
 }
 
 /// The job that the whole input states for a command, or what is bad in it.

@@ -10,7 +10,7 @@ use Rattle.std.specs.List.{list_any}
 use Rattle.clap.specs.Kinds.{or_else, check_kinds}
 use Rattle.clap.specs.declared.parser.matches.ArgMatches.{ArgMatches}
 use Rattle.krb_program.specs.declared.command.Asked.{Asked}
-use Rattle.krb_program.specs.Command.{IsEntered, IsWord, IsNamed, form_of, krbrelay_app, text_behind, word_of}
+use Rattle.krb_program.specs.Command.{IsEntered, IsWord, IsNamed, form_of, is_set, krbrelay_app, text_behind, word_of}
 use Rattle.clap.proofs.WalkLemmas.{first_value-rows}
 use Rattle.krb_program.specs.declared.command.Cmd.{Cmd}
 use Rattle.clap.specs.declared.parser.matches.ArgMatches.TheViews.{out-ArgMatches, out-SubCommand}
@@ -116,8 +116,9 @@ pub entered_from : (m : ArgMatches) (found : Option (Bor Text × Bor ArgMatches)
     → found ≡ Some p → p.0.now ≡ word_of asked.command
     → (any : Option (Bor Text)) → asked.form ≡ form_of (text_behind any) → text_behind any ≡ first_value (found_of p.1.now) (codes "any")
     → text_behind asked.key ≡ first_value (found_of p.1.now) (codes "key") → text_behind asked.etype ≡ first_value (found_of p.1.now) (codes "etype")
+    → (set : Option (Bor Text)) → asked.plain ≡ is_set (text_behind set) → text_behind set ≡ first_value (found_of p.1.now) (codes "plain")
     → IsEntered (subcommand_rows_of m) asked
-entered_from m found p asked named rows is word any form given key etype =
+entered_from m found p asked named rows is word any form given key etype set plain there =
     let options = rows_of (found_of p.1.now) in record {
       options = options;
       command = rows_entered m p.0.now options (ap (option_map (λ q. q.0.now)) (sym is) ∙ named) (ap (option_map (λ q. rows_of (found_of q.1.now))) (sym is) ∙ rows)
@@ -125,4 +126,5 @@ entered_from m found p asked named rows is word any form given key etype =
       form = form ∙ ap form_of (given ∙ first_value-rows (found_of p.1.now) (codes "any"));
       key = key ∙ first_value-rows (found_of p.1.now) (codes "key");
       etype = etype ∙ first_value-rows (found_of p.1.now) (codes "etype");
+      plain = plain ∙ ap is_set (there ∙ first_value-rows (found_of p.1.now) (codes "plain"));
     }

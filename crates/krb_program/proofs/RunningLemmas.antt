@@ -3,6 +3,7 @@ use Rattle.std.proofs.Common.{◌≡◌, ◌<◌, length, inl, inr, List, ℕ, O
 use Rattle.std.specs.Io.KnownBytes.{Appends, Keeps}
 use Rattle.std.proofs.KnownBytes.{Keeps-refl, Keeps-trans}
 use Rattle.krb_job.specs.declared.bad_input.BadInput.{BadInput}
+use Rattle.krb_job.specs.declared.job.Command.TheVariants as job
 use Rattle.krb_commands.specs.declared.fault.Fault.{Fault}
 use Rattle.krb_commands.specs.declared.fault.Fault.TheVariants as fault
 use Rattle.krb_commands.specs.declared.fault.KeyFault.{KeyFault}
@@ -17,13 +18,13 @@ use Rattle.krb_commands.specs.Vectors.{vectors_text}
 use Rattle.krb_commands.specs.declared.form.Form.{Form}
 use Rattle.krb_program.specs.declared.command.Cmd.{Cmd}
 use Rattle.krb_program.specs.declared.command.Cmd.TheVariants.{Show, Vectors, Seal, Open, Relay}
-use Rattle.krb_commands.specs.Parsed.{Parsed}
-use Rattle.krb_commands.specs.Jobs.{SealsParsed, SealsParsedPrefix, OpensParsed, OpensParsedFirst, OpensParsedPrefix}
+use Rattle.krb_commands.specs.Parsed.{Parsed, IsParsed}
+use Rattle.krb_commands.specs.Jobs.{SealsParsed, SealsParsedPrefix, OpensParsed, OpensParsedFirst, OpensParsedPrefix, OpensPlain, OpensPlainPrefix}
 use Rattle.krb_program.specs.RelayedJob.{RelaysParsed, RelaysParsedPrefix, StopsParsed}
-use Rattle.krb_commands.specs.JobInput.{PrintsNothing}
+use Rattle.krb_commands.specs.JobInput.{FailsCheck, PrintsNothing, ReadsInput}
 use Rattle.krb_etype.specs.declared.etype.Etype.{Etype}
 use Rattle.krb_etype.specs.TypedKey.{TypedKey}
-use Rattle.krb_program.specs.Running.{Does, DoesFirst, DoesPrefix, IsBadInput, HasRun, HasNoKey, HasShown, HasShownFile, IsKeyOf, ShowsPrefixUnder}
+use Rattle.krb_program.specs.Running.{Does, DoesFirst, DoesPrefix, IsBadInput, HasOpenedPlain, OpensPlainFront, HasRun, HasNoKey, HasShown, HasShownFile, IsKeyOf, ShowsPrefixUnder}
 
 -- what is said of bytes that are known stays true while they are kept
 stable : (P : Option (List ℕ) → Option (List ℕ) → Type 0) → ((a b : Option (List ℕ)) → P None a → P None b) → ((xs : List ℕ) → P (Some xs) None → ⊥)
@@ -209,3 +210,45 @@ module _ (form : Form) (told : Result (Option Etype) KeyFault) (stated : Option 
   file_unflushed =
       let kept = shown_kept form stated h.0 input old mid new r k h.1 in
       subst (λ t. HasShownFile form t input old new (Err fault.Write)) (sym is) (h.0, shown_front form stated h.0 input old new r kept)
+
+-- ---- user data that are taken as they are
+
+no_plain : (parsed : Parsed) (xs : List ℕ) → OpensPlainPrefix parsed (Some xs) None → ⊥
+no_plain parsed xs (inl p) = p
+no_plain parsed xs (inr (s, t, inl p)) = p
+no_plain parsed xs (inr (s, t, inr (outcomes, are, p))) = p.1
+
+module _ (input old mid new : Option (List ℕ)) (k : Keeps mid new) where
+  plain_front : OpensPlainFront input old mid → OpensPlainFront input old new
+  plain_front p = λ parsed is. stable (λ a b. OpensPlainPrefix parsed a b) (λ a b p. p) (no_plain parsed) old mid new k (p parsed is)
+
+  module _ (r : Result ℕ Fault) (done : (parsed : Parsed) → IsParsed job.Open input parsed → IfOk r (OpensPlain parsed old mid))
+      (prefix : (parsed : Parsed) → IsParsed job.Open input parsed → OnErr r (OpensPlainPrefix parsed old mid)) where
+    -- whatever it answered, where the flush fails
+    pub plain_unflushed : OpensPlainFront input old new
+    plain_unflushed = plain_front (λ parsed is. by_answer parsed r (done parsed is) (prefix parsed is))
+      where
+        by_answer : (parsed : Parsed) (r : Result ℕ Fault) → IfOk r (OpensPlain parsed old mid) → OnErr r (OpensPlainPrefix parsed old mid) → OpensPlainPrefix parsed old mid
+        by_answer parsed (Ok status) p q = inr (p.0, p.1, inr (p.2.0, p.2.1, AppendsPrefix-whole old mid _ p.2.2))
+        by_answer parsed (Err fault) p q = q
+
+-- a run, before the flush and after
+pub plain_kept : (input old mid new : Option (List ℕ)) (r : Result ℕ Fault) → Keeps mid new
+    → ((parsed : Parsed) → IsParsed job.Open input parsed → IfOk r (OpensPlain parsed old mid))
+    → ((parsed : Parsed) → IsParsed job.Open input parsed → OnErr r (OpensPlainPrefix parsed old mid))
+    → ReadsInput job.Open input FailsCheck r → PrintsNothing old mid r
+    → ((lines : ℕ) → ¬ (r ≡ Err (fault.Stopped lines)))
+    → ((lines : ℕ) → ¬ (r ≡ Err (fault.Thread lines)))
+    → ((key : KeyFault) → ¬ (r ≡ Err (fault.Key key)))
+    → HasOpenedPlain input old new r
+plain_kept input old mid new (Ok status) k done prefix reading nothing stopped thread none =
+    λ parsed is. stable (λ a b. OpensPlain parsed a b status) (λ a b p. p) (λ xs p. p.2.2) old mid new k (done parsed is)
+plain_kept input old mid new (Err fault.TooLong) k done prefix reading nothing stopped thread none = (reading.too_long refl, Keeps-trans old mid new (nothing.too_long refl) k)
+plain_kept input old mid new (Err (fault.BadInput b)) k done prefix reading nothing stopped thread none =
+    ((λ parsed is. reading.bad_input parsed is b refl), Keeps-trans old mid new (nothing.bad_input b refl) k)
+plain_kept input old mid new (Err (fault.Key key)) k done prefix reading nothing stopped thread none = absurd (none key refl)
+plain_kept input old mid new (Err fault.Memory) k done prefix reading nothing stopped thread none = plain_front input old mid new k prefix
+plain_kept input old mid new (Err (fault.Stopped lines)) k done prefix reading nothing stopped thread none = absurd (stopped lines refl)
+plain_kept input old mid new (Err (fault.Thread lines)) k done prefix reading nothing stopped thread none = absurd (thread lines refl)
+plain_kept input old mid new (Err fault.Read) k done prefix reading nothing stopped thread none = Keeps-trans old mid new (nothing.read_fault refl) k
+plain_kept input old mid new (Err fault.Write) k done prefix reading nothing stopped thread none = plain_front input old mid new k prefix

@@ -1,5 +1,6 @@
 -- The command line, in the words of `clap`.
-use Rattle.std.specs.Prelude.{◌≡◌, ℕ, List, [], ◌∷◌, Option, Some, None, codes, true, option_map}
+use Rattle.std.specs.Prelude.{◌≡◌, ℕ, List, [], ◌∷◌, Option, Some, None, codes, option_map}
+use Rattle.std.specs.Prelude.{Bool, true, false}
 use Rattle.std.specs.Prelude.{if◌then◌else◌}
 use Rattle.std.specs.Borrow.{Bor}
 use Rattle.std.specs.Str.{bytes_eq}
@@ -40,14 +41,14 @@ option_rule name = record (new_rule name) { long = Some name; value_names = 1 }
 abbrev pub flag_rule : Text → Rule
 flag_rule name = record (new_rule name) { long = Some name; action = Some SetTrue }
 
--- a command of the command line: only `show` has options
+-- a command of the command line: `show` and `open` have options
 abbrev pub shape_for : Cmd → Shape
 shape_for Show = record (new_shape (codes "show")) {
   rules = flag_rule (codes "any") ∷ option_rule (codes "key") ∷ option_rule (codes "etype") ∷ [];
 }
 shape_for Vectors = new_shape (word_of Vectors)
 shape_for Seal = new_shape (word_of Seal)
-shape_for Open = new_shape (word_of Open)
+shape_for Open = record (new_shape (codes "open")) { rules = flag_rule (codes "plain") ∷ [] }
 shape_for Relay = new_shape (word_of Relay)
 
 abbrev pub with_word : App → Cmd → App
@@ -72,6 +73,11 @@ abbrev pub form_of : Option Text → Form
 form_of None = Lines
 form_of (Some text) = if bytes_eq text (codes "true") then Any else Lines
 
+-- an option without a value is there, by its text
+abbrev pub is_set : Option Text → Bool
+is_set None = false
+is_set (Some text) = bytes_eq text (codes "true")
+
 abbrev pub text_behind : Option (Bor Text) → Option Text
 text_behind text = option_map (λ t. t.now) text
 
@@ -82,3 +88,4 @@ pub record IsEntered (found : Option (Text × List Row)) (asked : Asked) : Type 
   pub form : asked.form ≡ form_of (first_of (codes "any") options)
   pub key : text_behind asked.key ≡ first_of (codes "key") options
   pub etype : text_behind asked.etype ≡ first_of (codes "etype") options
+  pub plain : asked.plain ≡ is_set (first_of (codes "plain") options)

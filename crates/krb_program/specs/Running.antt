@@ -1,6 +1,7 @@
 -- What each command does, by the bytes that its reader has left, and the exit statuses.
 use Rattle.std.specs.Prelude.{◌≡◌, ◌⊎◌, ◌<◌, List, ℕ, codes, length, Option, Some, None, IfSome}
 use Rattle.std.specs.Prelude.{Result, Ok, Err, if◌then◌else◌, ok_or, option_map, ⊤}
+use Rattle.std.specs.Prelude.{Bool, true, false}
 use Rattle.std.specs.Str.{bytes_eq}
 use Rattle.std.specs.Io.KnownBytes.{Appends, Keeps}
 use Rattle.krb_job.specs.declared.job.Command.TheVariants as job
@@ -27,6 +28,7 @@ use Rattle.krb_program.specs.declared.command.Cmd.TheVariants.{Show, Vectors, Se
 use Rattle.krb_commands.specs.Parsed.{Parsed, IsParsed}
 use Rattle.krb_commands.specs.Jobs.{SealsParsed, SealsParsedPrefix, IsBadToSeal}
 use Rattle.krb_commands.specs.Jobs.{OpensParsed, OpensParsedFirst, OpensParsedPrefix}
+use Rattle.krb_commands.specs.Jobs.{OpensPlain, OpensPlainPrefix}
 use Rattle.krb_program.specs.RelayedJob.{RelaysParsed, RelaysParsedPrefix, StopsParsed}
 use Rattle.krb_program.specs.RelayedJob.{IsBadToRelay}
 
@@ -147,25 +149,54 @@ HasShownFile form (Ok stated) input old new outcome =
     (file : Option (List ℕ)) × HasShown form stated file input old new outcome
 HasShownFile form (Err key) input old new outcome = IsRefused key old new outcome
 
+-- a prefix of what `open --plain` prints, or nothing
+abbrev pub OpensPlainFront : Option (List ℕ) → Option (List ℕ) → Option (List ℕ) → Type 0
+OpensPlainFront input old new =
+    (parsed : Parsed) → IsParsed job.Open input parsed → OpensPlainPrefix parsed old new
+
+-- What a run of `open --plain` does: all, or after a fault a prefix of it, and nothing where the
+-- input can't be read or is bad.
+abbrev pub HasOpenedPlain : Option (List ℕ) → Option (List ℕ) → Option (List ℕ) → Result ℕ Fault
+    → Type 0
+HasOpenedPlain input old new (Ok status) =
+    (parsed : Parsed) → IsParsed job.Open input parsed → OpensPlain parsed old new status
+HasOpenedPlain input old new (Err fault.TooLong) =
+    IfSome input (λ bytes. input_limit < length bytes) × Keeps old new
+HasOpenedPlain input old new (Err (fault.BadInput bad)) = IsBadInput Open input bad × Keeps old new
+HasOpenedPlain input old new (Err (fault.Key key)) = ⊥
+HasOpenedPlain input old new (Err fault.Memory) = OpensPlainFront input old new
+HasOpenedPlain input old new (Err (fault.Stopped lines)) = ⊥
+HasOpenedPlain input old new (Err (fault.Thread lines)) = ⊥
+HasOpenedPlain input old new (Err fault.Read) = Keeps old new
+HasOpenedPlain input old new (Err fault.Write) = OpensPlainFront input old new
+
+-- `open` was run, with its option or without
+abbrev pub HasOpened : Bool → Form → Option (List ℕ) → Option (List ℕ) → Option (List ℕ)
+    → Result ℕ Fault → Type 0
+HasOpened true form input old new outcome = HasOpenedPlain input old new outcome
+HasOpened false form input old new outcome = HasRun Open form input old new outcome
+
 -- A command was run, by its options: `show` in a form, and under the key of a file where one is
--- named.
-abbrev pub HasServed : Cmd → Form → Option Text → Option Text → Option (List ℕ) → Option (List ℕ)
-    → Option (List ℕ) → Result ℕ Fault → Type 0
-HasServed Show form None None input old new outcome = HasRun Show form input old new outcome
-HasServed Show form None (Some etype) input old new outcome = IsRefused Missing old new outcome
-HasServed Show form (Some path) etype input old new outcome =
+-- named, and `open` plain or not.
+abbrev pub HasServed : Cmd → Form → Option Text → Option Text → Bool → Option (List ℕ)
+    → Option (List ℕ) → Option (List ℕ) → Result ℕ Fault → Type 0
+HasServed Show form None None plain input old new outcome = HasRun Show form input old new outcome
+HasServed Show form None (Some etype) plain input old new outcome = IsRefused Missing old new outcome
+HasServed Show form (Some path) etype plain input old new outcome =
     HasShownFile form (stated_of etype) input old new outcome
-HasServed Vectors form key etype input old new outcome = HasRun Vectors form input old new outcome
-HasServed Seal form key etype input old new outcome = HasRun Seal form input old new outcome
-HasServed Open form key etype input old new outcome = HasRun Open form input old new outcome
-HasServed Relay form key etype input old new outcome = HasRun Relay form input old new outcome
+HasServed Vectors form key etype plain input old new outcome =
+    HasRun Vectors form input old new outcome
+HasServed Seal form key etype plain input old new outcome = HasRun Seal form input old new outcome
+HasServed Open form key etype plain input old new outcome =
+    HasOpened plain form input old new outcome
+HasServed Relay form key etype plain input old new outcome = HasRun Relay form input old new outcome
 
 -- what is done that a command line asks
 abbrev pub HasObeyed : Asked → Option (List ℕ) → Option (List ℕ) → Option (List ℕ) → Result ℕ Fault
     → Type 0
 HasObeyed asked input old new outcome =
-    HasServed asked.command asked.form (text_behind asked.key) (text_behind asked.etype) input
-    old new outcome
+    HasServed asked.command asked.form (text_behind asked.key) (text_behind asked.etype)
+    asked.plain input old new outcome
 
 -- the exit status of a run
 abbrev pub status_of : Result ℕ Fault → ℕ

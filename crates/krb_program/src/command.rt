@@ -54,6 +54,8 @@ pub struct Asked<'a> {
     pub key: Option<&'a str>,
     /// The number of the encryption type that this key is of.
     pub etype: Option<&'a str>,
+    /// Whether `open` takes user data as they are, and not as records.
+    pub plain: bool,
 }
 
 /// What the words of a command line ask, of which the first is the program's name.
@@ -80,6 +82,7 @@ fn entered<'a>(matches: &ArgMatches<'a>) -> Asked<'a>
         form: form_of(options.get_str("any")),
         key: options.get_str("key"),
         etype: options.get_str("etype"),
+        plain: is_set(options.get_str("plain")),
     }
 }
 
@@ -91,6 +94,13 @@ fn form_of(any: Option<&str>) -> Form
         Some("true") => Form::Any,
         _ => Form::Lines,
     }
+}
+
+/// Whether an option without a value is there, by its text.
+fn is_set(flag: Option<&str>) -> bool
+    ensures { result ≡ line.is_set (text_behind flag.entry) }
+{
+    matches!(flag, Some("true"))
 }
 
 /// The command line as `clap` knows it: one line for each command, with its help.
@@ -122,8 +132,15 @@ fn with_jobs<'a>(alloc: Global, line: Command<'a>) -> Result<Command<'a>, AllocE
         ≡ with_word (with_word (with_word (app_of line.entry) Cmd.Seal) Cmd.Open) Cmd.Relay) }
 {
     let line = with_command(alloc, line, "seal", help::SEAL)?;
-    let line = with_command(alloc, line, "open", help::OPEN)?;
+    let line = with_open(alloc, line)?;
     with_command(alloc, line, "relay", help::RELAY)
+}
+
+/// Adds the command `open`.
+fn with_open<'a>(alloc: Global, line: Command<'a>) -> Result<Command<'a>, AllocError>
+    ensures { IfOk result (λ command. app_of command ≡ with_word (app_of line.entry) Cmd.Open) }
+{
+    line.subcommand(open(alloc)?)
 }
 
 /// Adds a command without options.
@@ -151,6 +168,15 @@ fn show<'a>(alloc: Global) -> Result<Command<'a>, AllocError>
         .arg(any)?
         .arg(key)?
         .arg(etype)
+}
+
+/// The command `open`, with its option.
+fn open<'a>(alloc: Global) -> Result<Command<'a>, AllocError>
+    ensures shape { IfOk result (λ command. (app_of command).top ≡ shape_for Cmd.Open) }
+    ensures local { IfOk result (λ command. (fields_of command).has_globals ≡ false) }
+{
+    let plain = flag(alloc, "plain", help::PLAIN);
+    described(alloc, "open", help::OPEN).arg(plain)
 }
 
 /// A command without options.

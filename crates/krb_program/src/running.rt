@@ -9,12 +9,12 @@ ghost use Rattle.krb_program.specs.Command.{IsEntered, krbrelay_app, text_behind
 ghost use Rattle.krb_commands.specs.JobInput.{PrintsNothing};
 ghost use Rattle.krb_commands.specs.declared.fault.KeyFault.{KeyFault as KeyFaultValue};
 ghost use Rattle.krb_program.specs.declared.command.Asked.{Asked as AskedValue};
-ghost use Rattle.krb_program.specs.Running.{Does, DoesFirst, DoesPrefix, IsBadInput, HasObeyed, HasRun, HasShown, HasShownFile, IsRefused, stated_of};
+ghost use Rattle.krb_program.specs.Running.{Does, DoesFirst, DoesPrefix, IsBadInput, HasObeyed, HasOpenedPlain, HasRun, HasShown, HasShownFile, IsRefused, stated_of};
 
 use crate::command::{Asked, Cmd, command_of};
 use crate::relay_command::relay;
 use clap::Error;
-use krb_commands::{Fault, Form, KeyFault, open, read_key, seal, show, vectors};
+use krb_commands::{Fault, Form, KeyFault, open, open_plain, read_key, seal, show, vectors};
 use krb_relay::Gate;
 use krb_seal::Etype;
 use std::alloc::Global;
@@ -75,6 +75,9 @@ fn serve<T: Threads + Wait + Files + Sync, R: Read, W: Write + Drop, G: Gate + S
     ensures flushed { ¬ (result ≡ Err Fault.Write) → writer_buffer writer.new ≡ [] }
     ensures vectors_reads_nothing { asked.entry.command ≡ Cmd.Vectors → reader.new ≡ reader.old }
 {
+    if matches!(asked.command, Cmd::Open) && asked.plain {
+        return run_plain(alloc, reader, writer);
+    }
     if !matches!(asked.command, Cmd::Show) {
         return run(rt, alloc, asked.command, asked.form, reader, writer, gate);
     }
@@ -83,6 +86,23 @@ fn serve<T: Threads + Wait + Files + Sync, R: Read, W: Write + Drop, G: Gate + S
         None if asked.etype.is_some() => refuse_key(KeyFault::Missing, writer),
         None => run(rt, alloc, asked.command, asked.form, reader, writer, gate),
     }
+}
+
+/// Runs `open` over user data that are taken as they are.
+fn run_plain<R: Read, W: Write + Drop>(
+    alloc: Global,
+    reader: &mut R,
+    writer: &mut BufWriter<W>,
+) -> Result<u8, Fault>
+    ensures opened { HasOpenedPlain (R.remaining reader.old)
+        (writer_contents W.contents writer.old) (writer_contents W.contents writer.new) result }
+    ensures flushed { ¬ (result ≡ Err Fault.Write) → writer_buffer writer.new ≡ [] }
+{
+    let outcome = open_plain(alloc, reader, writer);
+    if writer.flush().is_err() {
+        return Err(Fault::Write);
+    }
+    outcome
 }
 
 /// Runs `show` under the key of a file, whose type may be stated.

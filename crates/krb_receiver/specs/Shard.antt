@@ -158,6 +158,7 @@ pub record IsLoaded (old : ShardState) (stored : Spot) (new : ShardState) : Type
   pub alone : new.alone ≡ old.alone
   pub wait : new.wait ≡ old.wait
   pub refusals : new.refusals ≡ old.refusals
+  pub effects : new.effects ≡ old.effects
   pub clock : new.clock ≡ old.clock
 
 abbrev pub read_of : Bool → Read
@@ -229,6 +230,15 @@ last_of (Some attempt) none = last_in attempt.last none
 abbrev pub taken_with : List ℕ → ℕ → Bool → List ℕ
 taken_with taken place is_there = if is_there then taken else taken ++ place ∷ []
 
+-- where a session takes a frame or pays a receipt: what stays beside its attempt and clock
+pub record MarksStay (old new : ShardState) : Type 0 where
+  pub reading : new.reading ≡ old.reading
+  pub alone : new.alone ≡ old.alone
+  pub wait : new.wait ≡ old.wait
+  pub refusals : new.refusals ≡ old.refusals
+  pub is_loaded : new.is_loaded ≡ old.is_loaded
+  pub effects : new.effects ≡ old.effects
+
 -- a frame of a session is in it: what the session's end says of it; the others are as they were
 pub record Takes (old : ShardState) (place : ℕ) (frame : List ℕ) (seen : Seen) (offset : ℕ) (is : Outcome) (new : ShardState) : Type 0 where
   pub before : Receiving
@@ -236,8 +246,7 @@ pub record Takes (old : ShardState) (place : ℕ) (frame : List ℕ) (seen : See
   pub outcome : is ≡ engine.outcome before.drafted seen
   pub becomes : new.sessions ≡ slice_set old.sessions place (engine.took before frame seen)
   pub has_it : new.attempt ≡ with_last old.attempt offset
-  pub reading : new.reading ≡ old.reading
-  pub is_loaded : new.is_loaded ≡ old.is_loaded
+  pub marks : MarksStay old new
   pub clock : new.clock ≡ old.clock
 
 -- a frame of no session is in it
@@ -268,6 +277,7 @@ pub record Stores (old new : ShardState) : Type 0 where
   pub refusals : new.refusals ≡ 0
   pub alone : new.alone ≡ old.alone
   pub is_loaded : new.is_loaded ≡ old.is_loaded
+  pub effects : new.effects ≡ old.effects
   pub clock : new.clock ≡ old.clock
 
 -- ---- what fails
@@ -344,6 +354,7 @@ pub record Fails (old : ShardState) (failure : Failure) (offset : ℕ) (is : The
   pub wait : new.wait ≡ waits_then is old.wait old.clock
   pub is_loaded : new.is_loaded ≡ stays_loaded is old.is_loaded failure
   pub reading : new.reading ≡ old.reading
+  pub effects : new.effects ≡ old.effects
   pub clock : new.clock ≡ old.clock
 
 -- ---- receipts
@@ -359,6 +370,7 @@ pub record Pays (old : ShardState) (now : ℕ) (due : Due) (new : ShardState) : 
   pub receipt : due.receipt ≡ before.stored.demanded
   pub becomes : new.sessions ≡ slice_set old.sessions due.place (engine.answered before new.clock)
   pub attempt : new.attempt ≡ old.attempt
+  pub marks : MarksStay old new
   pub clock : new.clock ≡ max old.clock now
 
 -- none is due: a transaction is under way; or the pause of each that is owed isn't over
@@ -376,6 +388,7 @@ pub record OwesAgain (old : ShardState) (place : ℕ) (asks : Asks) (new : Shard
   pub before : Receiving
   pub is_before : before ≡ slice_index_or old.sessions place before
   pub becomes : new.sessions ≡ slice_set old.sessions place (owes_again before asks)
+  pub reading : new.reading ≡ old.reading
   pub rest : RestIsSame old new
 
 -- ---- what is claimed of all transactions

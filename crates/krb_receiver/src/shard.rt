@@ -172,6 +172,7 @@ impl Shard {
     /// is read, and of one that was cut off what comes after its end.
     pub fn listed(&mut self, list: u64, last: u64) -> bool
         ensures reads { ReadsOn self.old.reading list last 0 (read_of result) self.new.reading }
+        ensures sessions { self.new.sessions ≡ self.old.sessions }
         ensures rest { RestIsSame self.old self.new }
     {
         self.reading.frames(list, last, 0) == Read::Elsewhere
@@ -185,6 +186,13 @@ impl Shard {
         let found = compare(&self.reading.stored, &stored);
         self.is_loaded = self.is_loaded && found == Found::Same;
         found
+    }
+
+    /// What the store has is asked for again, as where the carrier has a different list, or a file was replaced.
+    pub fn forget(&mut self)
+        ensures { self.new ≡ record self.old { is_loaded = false } }
+    {
+        self.is_loaded = false;
     }
 
     /// Up to where the list was taken, as stored and as read.
@@ -213,7 +221,8 @@ impl Shard {
     pub fn add(&mut self, row: Row) -> Result<(), AllocError>
         requires few { length self.old.sessions < 2 ^ 32 - 1 }
         ensures ok { OnOk result (self.new.sessions ≡ self.old.sessions ++ engine.has_row row self.old.clock ∷ []) }
-        ensures err { OnErr result (self.new.sessions ≡ self.old.sessions) }
+        ensures err { OnErr result (self.new ≡ self.old) }
+        ensures reading { self.new.reading ≡ self.old.reading }
         ensures rest { RestIsSame self.old self.new }
     {
         self.sessions.push(Receiving::load(row, self.clock))?;
@@ -343,9 +352,9 @@ impl Shard {
         self.refusals = 0;
     }
 
-    /// The frame of this offset isn't taken, or the transaction that ends with it isn't stored: what happens to it.
+    /// The frame of this offset isn't taken, or the transaction that ends with it isn't stored: what happens to it. So it is
+    /// where a store can't be asked before there is one.
     pub fn failed(&mut self, failure: Failure, offset: u64) -> Then
-        requires { is_some self.old.attempt ≡ true }
         ensures { Fails self.old failure offset result self.new }
     {
         let then = then_of(self.effects, self.attempt, self.refusals, failure);

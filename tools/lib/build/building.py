@@ -1,8 +1,9 @@
 """Which programs and libraries are built in crates/NAME/out, and from which sources.
 
 Beside each of them that a tool has had proved and built is a file with the digest of the sources
-and of what was built: while both are the same, it isn't built again. A program that was built
-without its proofs has no such file (unproved.py): nothing here takes it for a proved one.
+and of what was built, and the kit's name: while these are the same, it isn't built again. A program
+that was built without its proofs has no such file (unproved.py): nothing here takes it for a proved
+one.
 """
 import filecmp
 import hashlib
@@ -50,6 +51,10 @@ def top_of(crate):
     """What is built of a crate that no other stands on: its program or, where it has none, its
     static library, which lies where `rt ci` removes nothing: it makes the folder `out` of each crate anew."""
     return program_of(crate) if has_program(crate) else os.path.join(TOP, "out", "static", f"lib{crate}.a")
+
+
+# What c/library has built of krb_c: it lies there too.
+C_LIBRARY = os.path.join(TOP, "out", "c_library")
 
 
 def library_of(crate):
@@ -172,16 +177,32 @@ def digest_of_built(built):
     return digest([os.path.join(built, "format") if os.path.isdir(built) else built])
 
 
+def kit():
+    """What the kit calls itself; nothing where there is none, or where it has no name."""
+    command = shutil.which("rt")
+    told = command and os.path.join(os.path.dirname(os.path.dirname(os.path.realpath(command))), "KIT-ID")
+    if not told or not os.path.exists(told):
+        return ""
+    with open(told, encoding="utf-8") as file:
+        return file.read().strip()
+
+
+def is_noted(stamp, digests):
+    """Whether a file notes these digests and this kit; where there is none, whatever kit it was."""
+    if not os.path.exists(stamp):
+        return False
+    with open(stamp, encoding="utf-8") as file:
+        noted = file.read()
+    return noted == digests + kit() if kit() else noted.startswith(digests)
+
+
 def is_built(crate, built):
     """Whether a program or library of the crate is the one that was built last, from these very
-    sources."""
-    if not os.path.exists(stamp_of(built)) or not os.path.exists(built):
-        return False
-    with open(stamp_of(built), encoding="utf-8") as file:
-        return file.read() == digest_of(crate) + digest_of_built(built)
+    sources and by this kit."""
+    return os.path.exists(built) and is_noted(stamp_of(built), digest_of(crate) + digest_of_built(built))
 
 
 def note(built, built_from):
     """Notes that a program or a library was proved and built from sources of this digest."""
     with open(stamp_of(built), "w", encoding="utf-8") as file:
-        file.write(built_from + digest_of_built(built))
+        file.write(built_from + digest_of_built(built) + kit())

@@ -68,7 +68,7 @@ def keep(crate, folder, built_from, other=""):
     for name in (MODULE, WORDS):
         shutil.copy(os.path.join(folder, name), place_of(crate, other))
     with open(stamp_of(crate, other), "w", encoding="utf-8") as file:
-        file.write(built_from)
+        file.write(built_from + building.kit())
 
 
 def forget(crate, other=""):
@@ -79,8 +79,5 @@ def forget(crate, other=""):
 
 
 def is_kept(crate, other=""):
-    """Whether what is kept was given for the present sources."""
-    if not os.path.exists(stamp_of(crate, other)):
-        return False
-    with open(stamp_of(crate, other), encoding="utf-8") as file:
-        return file.read() == building.digest_of(crate)
+    """Whether what is kept was given for the present sources, by this kit."""
+    return building.is_noted(stamp_of(crate, other), building.digest_of(crate))

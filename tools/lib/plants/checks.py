@@ -1,4 +1,4 @@
-"""The checks that see planted faults: each runs tests of the gate over a copy of the repository. A check
+"""The checks that see planted faults: each runs parts of tools/test, or cases, over a copy of the repository. A check
 answers whether the tests passed, and what they said. Crates are built without their proofs, but for the
 check `prover`."""
 import os
@@ -71,10 +71,10 @@ def counted(told: Told) -> Told:
     return told
 
 
-def costs(copy: Copy) -> Told:
-    """Of a library with a function around a call only this call."""
+def costs(copy: Copy, *calls: str) -> Told:
+    """Of these calls, and of a library with a function around a call only this call."""
     of = "--of" if copy.is_of_proved_code() else "--unproved"
-    return counted(copy.run(["c/costs", of, f"{copy.library}/libkrbrelay.so.1", *copy.wraps[:1]], cwd=copy.top))
+    return counted(copy.run(["c/costs", of, f"{copy.library}/libkrbrelay.so.1", *(calls or copy.wraps[:1])], cwd=copy.top))
 
 
 # The part of c/signatures that asks for no proved module.
@@ -92,9 +92,9 @@ def signatures(copy: Copy) -> Told:
     return copy.run(["python3", "-c", VERSIONS], cwd=copy.top)
 
 
-def c_test(copy: Copy, name: str) -> Told:
+def c_test(copy: Copy, name: str, *more: str) -> Told:
     if name in OF_C:
-        return OF_C[name](copy)
+        return OF_C[name](copy, *more)
     words = {"dead_stack": secrets_of(copy), "fuzz": ["20000"], "sequences": ["200000"],
              "processor": ["unsupported", "told"]}
     return c_program(copy, name, *words.get(name, ()))
@@ -133,10 +133,22 @@ def carrier(copy: Copy, what: str) -> Told:
     return copy.run([made, f"sqlite:{folder}/store.db" if what == "store_test" else folder])
 
 
+def carrier_case(copy: Copy, form: str, *cases: str) -> Told:
+    """Cases of a form of carrier/test, over the installed library."""
+    return counted(copy.run(["carrier/test", f"--{form}", copy.installed, *cases], cwd=copy.top))
+
+
+def carrier_pytest(copy: Copy, module: str, *words: str) -> Told:
+    """Tests of the carrier's programs, over the installed library; with words, those that have them in their names."""
+    chosen = ["-k", " or ".join(words)] if words else []
+    return copy.run(["pytest", "-q", "-x", f"--prefix={copy.installed}", *chosen, f"carrier/tests/{module}.py"],
+                    cwd=copy.top)
+
+
 # ---- the packages of other languages, over the installed library
 
 OF_PACKAGE = {"rust": ("tests/frames.txt", ["cargo", "test", "--offline", "--features", "system"]),
-              "go": ("testdata/frames.txt", ["go", "test", "-count=1", "-tags=krbrelay_system", "."])}
+              "go": ("testdata/frames.txt", ["go", "test", "-race", "-count=1", "-tags=krbrelay_system", "."])}
 
 
 def package(copy: Copy, room: str) -> Told:
@@ -168,6 +180,9 @@ def tool(copy: Copy, what: str) -> Told:
                      "tables": ["pytest", "-q", "-x", "tests/test_tables.py"],
                      "packages": ["pytest", "-q", "-x", "carrier/tests/test_packages.py"],
                      "verdicts": ["pytest", "-q", "-x", "-k", "verdict", "tests/test_release.py"],
+                     "release": ["pytest", "-q", "-x", "tests/test_release.py"],
+                     "claims": ["tools/reference", "--check"],
+                     "install": ["pytest", "-q", "-x", "--quick", "-k", "object or everybody or counted or processor or loader", "tests/test_install.py"],
                      "test_building": ["pytest", "-q", "-x", "tests/test_building.py"],
                      "test_parts": ["pytest", "-q", "-x", "tests/test_parts.py"],
                      "conformance": ["conformance/test", "--quick"]}[what], cwd=copy.top)
@@ -217,6 +232,7 @@ def prover(copy: Copy, name: str, function: str) -> Told:
 
 
 CHECKS: dict[str, Callable[..., Told]] = {"c": c_test, "program": of_program, "carrier": carrier,
+                                          "case": carrier_case, "pytest": carrier_pytest,
                                           "package": package, "python": python, "tools": tool, "crate": crate, "sweep": sweep,
                                           "prover": prover}
 

@@ -12,7 +12,6 @@ from lib.build import building, c_tools, family, without_proofs
 from lib.plants import planted, wrapped
 
 LIBRARY = without_proofs.LIBRARY
-PROVED = os.path.join(building.folder_of(LIBRARY), "out", "c_library")
 FLAGS = ["-std=gnu11", "-O2", "-w"]
 SECONDS = 900
 AUTHOR = ["-c", "user.name=plants", "-c", "user.email=plants@localhost"]
@@ -38,7 +37,7 @@ def is_proved() -> bool:
 def code_of_library() -> str:
     """The library's own code, as it stands here: proved, if that is built, else compiled once without proofs."""
     if is_proved():
-        return os.path.join(PROVED, "krbrelay.s")
+        return os.path.join(building.C_LIBRARY, "krbrelay.s")
     made = os.path.join(ROOM.name, "code.o")
     with ONE:
         if not os.path.exists(made):

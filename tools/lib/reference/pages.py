@@ -537,8 +537,8 @@ class Writer:
                 block.anchor = ""
                 blocks.append(block)
         blocks += [Heading(2, "The definitions", "definitions"),
-                   Paragraph(plain("Each module is a row, with its definitions below it; those that the"
-                                   " contracts reach in fewer steps come first. The source is the"
+                   Paragraph(plain("Each module is a row, with its definitions below it, or one definition's; those"
+                                   " that the contracts reach in fewer steps come first. The source is the"
                                    " standard that the definition, or the head of its file, cites;"
                                    " the other definitions are this project's.")),
                    Table(["Definition", "What it says", "Source", "Lines"],
@@ -555,16 +555,19 @@ class Writer:
         return found
 
     def module_rows(self, crate: str, name: str, found: List[Definition]) -> Iterator[List[List[Inline]]]:
-        """The row of a module, and those of its definitions."""
+        """The row of a module, and those of its definitions; one row if there is only one definition."""
         module = self.project.module_of(crate, name)
         assert module is not None
-        about = sentence(module.comment) + " " if module.comment else ""
-        yield [[Inline(f"{crate}: {name}", False, Target("", "", module.file))],
-               self.inlines(crate, about + counted(len(found), "definition") + ":"), plain(""),
-               plain(str(sum(it.lines() for it in found)))]
-        order = {it.ref: place for place, it in enumerate(module.definitions)}
+        place = Inline(f"{crate}: {name}", False, Target("", "", module.file))
+        about = [*self.inlines(crate, sentence(module.comment)), *plain(" ")] if module.comment else []
+        alone = len(found) == 1
+        if not alone:
+            yield [[place], [*about, *plain(counted(len(found), "definition") + ":")], plain(""),
+                   plain(str(sum(it.lines() for it in found)))]
+        order = {it.ref: at for at, it in enumerate(module.definitions)}
         for it in sorted(found, key=lambda it: order[it.ref]):
-            yield [code(it.ref.word, self.target(it.ref)), self.inlines(crate, sentence(it.comment)),
+            word, says = code(it.ref.word, self.target(it.ref)), self.inlines(crate, sentence(it.comment))
+            yield [[*word, *plain(" of "), place] if alone else word, [*about, *says] if alone else says,
                    plain(source_in(it.comment, module.comment)), plain(str(it.lines()))]
 
     def headline_types(self) -> Iterator[Block]:

@@ -44,6 +44,12 @@ def heading(block: Heading) -> Iterator[str]:
     yield "#" * block.level + " " + (f"`{block.text}`" if block.is_code else escaped(block.text))
 
 
+def follows(before: pages.Block, block: pages.Block) -> bool:
+    """Whether no empty line stands between the two: they are clauses of one list, or a list under its heading."""
+    return (isinstance(before, ClauseBlock) and isinstance(block, ClauseBlock)
+            or isinstance(before, Heading) and isinstance(block, Listing))
+
+
 class Markdown:
     """Writes pages; `source_of` gives the file that has what a page of a crate would show."""
 
@@ -115,10 +121,8 @@ class Markdown:
 
     def written(self, page: Page) -> str:
         lines: List[str] = []
-        for place, block in enumerate(page.blocks):
-            follows = place and isinstance(block, ClauseBlock) and isinstance(
-                page.blocks[place - 1], ClauseBlock)
-            if place and not follows:
+        for before, block in zip([None, *page.blocks], page.blocks):
+            if before and not follows(before, block):
                 lines.append("")
             lines += self.block_lines(block)
         return "\n".join(lines) + "\n"

@@ -16,4 +16,4 @@ pub returns : goal.returns
 returns c =
     let both : app_of c.in_ok-line-2.line ≡ with_word (with_word (app_of c.args.line) Seal) Open =
     c.in_ok-line-2.ensures ∙ ap (λ a. with_word a Open) c.in_ok-line.ensures in
-    with_last (with_word (with_word (app_of c.args.line) Seal) Open) c.in_ok-line-2.line Relay c.with_command-3.result both c.with_command-3.ensures
+    with_last (with_word (with_word (app_of c.args.line) Seal) Open) c.in_ok-line-2.line Relay c.with_command-2.result both c.with_command-2.ensures
