@@ -1,8 +1,9 @@
 /* What calls cost: under callgrind, linked with the shared library, so that its instructions stand alone.
- * Its words are sizes, and after them the calls that are measured, by default all. A line for each case on standard
- * output: call, what happens, mode, encryption type, size, answer, and of the allocations how many, the bytes asked
- * for, the largest, and the frame's bytes. Callgrind dumps the instructions of each under the same line (c/costs reads
- * both). */
+ * Its words are sizes, and after them the calls that are measured, by default all. A size after a number and an `x`
+ * is measured of the calls of several messages alone, with so many; without one they have eight. A line for each case
+ * on standard output: call, what happens, mode, encryption type, size, messages, answer, and of the allocations how
+ * many, the bytes asked for, the largest, and the frames' bytes. Callgrind dumps the instructions of each under the
+ * same line (c/costs reads both). */
 #include "check.h"
 #include "krbrelay.h"
 #include "session.h"
@@ -12,7 +13,8 @@
 #include <string.h>
 #include <valgrind/callgrind.h>
 
-enum { NUMBER = 7, MOST = 262144, FRAME = MOST + 500, LINE = 200, CODE = 12, MANY = 8 };
+enum { NUMBER = 7, MOST = 262144, BESIDE = 500, FRAME = MOST + BESIDE, LINE = 200, CODE = 12, MANY = 8,
+       MOST_TOGETHER = KRBRELAY_MOST_FRAMES };
 
 /* The least number with the longest encoding. */
 #define LONGEST 0x80000000u
@@ -47,8 +49,9 @@ void *realloc(void *block, size_t size)
 
 static uint8_t key[32], data[MOST], frame[FRAME], out[MANY * FRAME];
 static const uint8_t confounder[16] = { 1, 2, 3 };
-static struct krbrelay_unsealed many[MANY];
-static struct krbrelay_frame together[2 * MANY]; /* of two calls */
+static int messages = MANY;  /* of a call of several */
+static struct krbrelay_unsealed many[MOST_TOGETHER];
+static struct krbrelay_frame together[2 * MOST_TOGETHER]; /* of two calls */
 static uint8_t frames[2 * MANY * FRAME];
 static int taken_before; /* so many of them were taken before */
 static size_t data_len, frame_len, told, sizes[KRBRELAY_MOST_MESSAGES];
@@ -101,7 +104,7 @@ static enum krbrelay_answer seal_record(void)
 
 static enum krbrelay_answer seal_many(void)
 {
-    return krbrelay_sealer_seal_many(&sealer, many, MANY, out, sizeof out, sizes, &told);
+    return krbrelay_sealer_seal_many(&sealer, many, (size_t)messages, out, sizeof out, sizes, &told);
 }
 
 static enum krbrelay_answer frame_size(void)
@@ -129,10 +132,10 @@ static enum krbrelay_answer take(void)
 static enum krbrelay_answer take_many(void)
 {
     struct krbrelay_taken taken[KRBRELAY_MOST_FRAMES];
-    enum krbrelay_answer answer = krbrelay_receiver_take_many(&receiver, together + taken_before, MANY, &now, out,
-                                                              sizeof out, taken);
-    taken_before = MANY;
-    for (int i = 0; i < MANY && answer == KRBRELAY_OK; i++)
+    enum krbrelay_answer answer = krbrelay_receiver_take_many(&receiver, together + taken_before,
+                                                              (size_t)messages, &now, out, sizeof out, taken);
+    taken_before = messages;
+    for (int i = 0; i < messages && answer == KRBRELAY_OK; i++)
         answer = (enum krbrelay_answer)taken[i].answer;
     return answer;
 }
@@ -144,7 +147,7 @@ static enum krbrelay_answer peer_seal(void)
 
 static enum krbrelay_answer peer_seal_many(void)
 {
-    return krbrelay_peer_seal_many(&peer, many, MANY, out, sizeof out, sizes, &told);
+    return krbrelay_peer_seal_many(&peer, many, (size_t)messages, out, sizeof out, sizes, &told);
 }
 
 static enum krbrelay_answer peer_open(void)
@@ -190,11 +193,13 @@ static void end_all(void)
 /* A frame, and as many as are taken together, of which it is the first. */
 static void seal_frames(void)
 {
+    size_t room = data_len + BESIDE;
     make_all();
-    for (int i = 0; i < 2 * MANY; i++) {
-        together[i].bytes = frames + i * FRAME;
-        check(krbrelay_sealer_seal_record(&sealer, KRBRELAY_TEXT, data, data_len, &now, confounder,
-                                          frames + i * FRAME, FRAME, &together[i].bytes_len) == KRBRELAY_OK, "no frame");
+    for (int i = 0; i < 2 * messages; i++) {
+        uint8_t *place = frames + (size_t)i * room;
+        together[i].bytes = place;
+        check(krbrelay_sealer_seal_record(&sealer, KRBRELAY_TEXT, data, data_len, &now, confounder, place, room,
+                                          &together[i].bytes_len) == KRBRELAY_OK, "no frame");
     }
     frame_len = together[0].bytes_len;
     memcpy(frame, frames, frame_len);
@@ -220,9 +225,9 @@ static void measure_after(const struct call *call, int others, const char *what)
     CALLGRIND_TOGGLE_COLLECT;
     answer = call->made();
     CALLGRIND_TOGGLE_COLLECT;
-    snprintf(line, sizeof line, "%s|%s|%u|%d|%zu|%u|%zu|%zu|%zu|%zu", call->name, what, mode, (int)etype, data_len,
-             (unsigned)answer, asked.times, asked.bytes, asked.largest,
-             is_of_many(call) ? MANY * frame_len : frame_len);
+    int of_call = is_of_many(call) ? messages : 1;
+    snprintf(line, sizeof line, "%s|%s|%u|%d|%zu|%d|%u|%zu|%zu|%zu|%zu", call->name, what, mode, (int)etype, data_len,
+             of_call, (unsigned)answer, asked.times, asked.bytes, asked.largest, (size_t)of_call * frame_len);
     CALLGRIND_DUMP_STATS_AT(line);
     puts(line);
     end_all();
@@ -260,13 +265,26 @@ static int is_asked(const char *call, int count, char **names)
     return count == 0;
 }
 
-static void measure_all(int count, char **names)
+static void make_messages(void)
 {
     seal_frames();
-    for (int i = 0; i < MANY; i++) {
+    for (int i = 0; i < messages; i++) {
         many[i] = (struct krbrelay_unsealed){ .user_data = data, .user_data_len = data_len, .at = now };
         memcpy(many[i].confounder, confounder, sizeof confounder);
     }
+}
+
+static void measure_many(int count, char **names)
+{
+    make_messages();
+    for (size_t i = 0; i < sizeof calls / sizeof *calls; i++)
+        if (is_of_many(&calls[i]) && is_asked(calls[i].name, count, names))
+            measure(&calls[i], "done");
+}
+
+static void measure_all(int count, char **names)
+{
+    make_messages();
     for (size_t i = 0; i < sizeof calls / sizeof *calls; i++) {
         if ((calls[i].makes && data_len > 0) || !is_asked(calls[i].name, count, names))
             continue;
@@ -285,6 +303,20 @@ static void measure_all(int count, char **names)
     }
 }
 
+/* A word "12x100" or "100". */
+static void measure_word(const char *word, int count, char **names)
+{
+    const char *size = strchr(word, 'x');
+    messages = size == NULL ? MANY : atoi(word);
+    data_len = strtoul(size == NULL ? word : size + 1, NULL, 10);
+    check(data_len <= MOST && messages >= 1 && messages <= MOST_TOGETHER
+          && (size_t)messages * (data_len + BESIDE) <= sizeof out, "the size");
+    if (size == NULL)
+        measure_all(count, names);
+    else
+        measure_many(count, names);
+}
+
 int main(int count, char **words)
 {
     int names = 1;
@@ -297,10 +329,7 @@ int main(int count, char **words)
         data[i] = (uint8_t)(i * 31 + i / 256);
     for (mode = KRBRELAY_SAFE; mode <= KRBRELAY_PRIV; mode++)
         for (etype = 17; etype <= 18; etype++)
-            for (int i = 1; i < names; i++) {
-                data_len = strtoul(words[i], NULL, 10);
-                check(data_len <= MOST, "the size");
-                measure_all(count - names, words + names);
-            }
+            for (int i = 1; i < names; i++)
+                measure_word(words[i], count - names, words + names);
     return 0;
 }

@@ -15,17 +15,17 @@ Figures = tuple[int, ...]
 Table = dict[str, Figures]
 
 
-def read(path: str) -> Table:
-    """The figures by the words of a case, which are joined by tabs."""
+def read(path: str, first: int = 0) -> Table:
+    """The figures by the words of a case, which are joined by tabs: as many as come before the instructions."""
     with open(os.path.join(building.TOP, path), encoding="utf-8") as file:
         head, *lines = (line.split("\t") for line in file.read().splitlines())
-    first = head.index(HEAD[0])
+    first = first or head.index(HEAD[0])
     return {"\t".join(line[:first]): tuple(map(int, line[first:])) for line in lines}
 
 
-def write(path: str, head: Iterable[str], table: Table, more: Iterable[str] = ()) -> None:
+def write(path: str, head: Iterable[str], table: Table, more: Iterable[str] = (), figures: Iterable[str] = HEAD) -> None:
     with open(os.path.join(building.TOP, path), "w", encoding="utf-8") as file:
-        file.write("\t".join([*head, *HEAD, *more]) + "\n")
+        file.write("\t".join([*head, *figures, *more]) + "\n")
         for words, figures in table.items():
             file.write("\t".join([words, *map(str, figures)]) + "\n")
 
