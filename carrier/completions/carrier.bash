@@ -4,4 +4,4 @@ _krbrelay_carrier() {
     [[ $word == -* ]] || return 0
     mapfile -t COMPREPLY < <(compgen -W "$("$1" --help | sed -n 's/^  --/--/p' | grep -oe '--[a-z][a-z-]*')" -- "$word")
 }
-complete -o default -F _krbrelay_carrier krbrelay-sender krbrelay-receiver krbrelay-status
+complete -o default -F _krbrelay_carrier krbrelay-sender krbrelay-receiver krbrelay-status krbrelay-put krbrelay-get

@@ -31,14 +31,14 @@ def usage_options(program):
 
 
 def page_options(page):
-    lines = re.findall(r"^\.TP\n\.B (.*)$", text_of(f"man/{page}.8"), re.M)
+    lines = re.findall(r"^\.TP\n\.B (.*)$", text_of(f"man/{page}"), re.M)
     return {it for line in lines for it in OPTION.findall(line.replace("\\", ""))}
 
 
 @pytest.mark.parametrize("program", OF_BOTH)
 def test_the_manual_has_each_option(program):
     assert len(usage_options(program)) > 15
-    assert page_options(f"krbrelay-{program}") == usage_options(program)
+    assert page_options(f"krbrelay-{program}.8") == usage_options(program)
 
 
 @pytest.mark.parametrize("name", ["all", "cluster", "demo", "demo_kerberos", "realm"])
@@ -72,13 +72,12 @@ def test_the_manual_of_put_and_get_has_each_option(name):
     words = [sys.executable, os.path.join(SOURCES, "../python/krbrelay/carrier.py"), name, "--help"]
     said = subprocess.run(words, check=True, stdout=subprocess.PIPE, text=True).stdout
     named = set(OPTION.findall(said.partition("options:")[2]))
-    lines = re.findall(r"^\.TP\n\.B (.*)$", text_of(f"man/krbrelay-{name}.1"), re.M)
-    assert {it for line in lines for it in OPTION.findall(line.replace("\\", ""))} == named - {"--help"} and len(named) > 3
+    assert page_options(f"krbrelay-{name}.1") == named - {"--help"} and len(named) > 3
 
 
 def test_the_manual_of_status_has_each_option():
     said = re.findall(r"^  (--.*)$", text_of("status").split('"""')[1], re.M)
-    assert page_options("krbrelay-status") == {it for line in said for it in OPTION.findall(line.split("  ")[0])}
+    assert page_options("krbrelay-status.8") == {it for line in said for it in OPTION.findall(line.split("  ")[0])}
 
 
 # The calls by which an event is logged, and its name, or two.
@@ -104,22 +103,26 @@ def test_the_manual_has_each_event():
     assert set(re.findall(r"^\.B OPENING_(\w+)$", text_of("man/krbrelay-receiver.8"), re.M)) == reasons and len(reasons) > 10
 
 
-ASK_BASH = """. "$0"; COMP_WORDS=(krbrelay-status -); COMP_CWORD=1
-_krbrelay_carrier krbrelay-status; echo "${COMPREPLY[@]}"
+ASK_BASH = """. "$1"; complete -p "$0" > complete || exit 1; COMP_WORDS=("$0" -); COMP_CWORD=1
+_krbrelay_carrier "$0"; echo "${COMPREPLY[@]}"
 """
+SHELLS = {"bash": (["bash", "-c", ASK_BASH, "{}"], "carrier.bash"),
+          "fish": (["fish", "--no-config", "-c", 'source $argv[1]; complete -C "{} -"'], "carrier.fish")}
 
 
-@pytest.mark.parametrize("words", [
-    ["bash", "-c", ASK_BASH, "carrier.bash"],
-    ["fish", "--no-config", "-c", 'source $argv[1]; complete -C "krbrelay-status -"', "carrier.fish"]])
-def test_completions_have_each_option(words, tmp_path):
-    if shutil.which(words[0]) is None:
-        pytest.skip(f"{words[0]} isn't installed")
-    os.symlink(os.path.join(SOURCES, "status"), tmp_path / "krbrelay-status")
+@pytest.mark.parametrize("shell", SHELLS)
+@pytest.mark.parametrize("name, page", [("status", "krbrelay-status.8"), ("put", "krbrelay-put.1"), ("get", "krbrelay-get.1")])
+def test_completions_have_each_option(shell, name, page, tmp_path):
+    if shutil.which(shell) is None:
+        pytest.skip(f"{shell} isn't installed")
+    program, (words, file) = tmp_path / f"krbrelay-{name}", SHELLS[shell]
+    script = f"{SOURCES}/status" if name == "status" else f"{SOURCES}/../python/krbrelay/carrier.py {name}"
+    program.write_text(f'#!/bin/sh\nexec {sys.executable} {script} "$@"\n')
+    program.chmod(0o755)
     given = {"PATH": f"{tmp_path}:{os.environ['PATH']}", "HOME": str(tmp_path)}
-    words = [*words[:-1], os.path.join(SOURCES, "completions", words[-1])]
+    words = [*(it.replace("{}", program.name) for it in words), os.path.join(SOURCES, "completions", file)]
     said = subprocess.run(words, check=True, stdout=subprocess.PIPE, text=True, env=given, cwd=tmp_path).stdout
-    assert set(said.split()) == page_options("krbrelay-status")
+    assert set(said.split()) - {"--help"} == page_options(page)
 
 
 def metrics():
