@@ -1,5 +1,5 @@
 -- Messages that are sealed one after another, by their indices.
-use Rattle.std.proofs.Common.{◌≡◌, ℕ, zero, suc, ◌+◌, ◌<◌, ◌≤◌, List, [], ◌∷◌, ◌++◌, length, take, false, Option, Some, refl, sym, subst, arith, add-zero}
+use Rattle.std.proofs.Common.{◌≡◌, ◌↔◌, ℕ, zero, suc, ◌+◌, ◌^◌, ◌<◌, ◌≤◌, List, [], ◌∷◌, ◌++◌, length, take, false, Option, Some, refl, sym, subst, arith, add-zero}
 use Rattle.std.specs.Prelude.{slice_get}
 use Rattle.std.specs.Global.{Vec}
 use Rattle.krb_seal.specs.declared.seal_error.SealError.{SealError}
@@ -89,3 +89,44 @@ seals_more s [] fs f lt h at = absurd (omega (arith, lt))
 seals_more s (m ∷ ms) [] f lt h at = (from_first (λ t. SealsMessage t m f.items) s (at m refl), tt)
 seals_more s (m ∷ ms) (g ∷ fs) f lt h at =
     (h.0, seals_more (advanced s) ms fs f (omega (arith, lt)) h.1 (λ x e. from_next (λ t. SealsMessage t x f.items) s (length fs) (at x e)))
+
+-- each has one frame, at its number
+pub one_each : (s : SealerState) (ms : List Unsealed) (fs : List (Vec ℕ)) → SealsInTurn s ms fs → length fs ≡ length ms
+one_each s [] [] h = refl
+one_each s [] (f ∷ fs) h = absurd h
+one_each s (m ∷ ms) [] h = absurd h
+one_each s (m ∷ ms) (f ∷ fs) h = omega (arith, one_each (advanced s) ms fs h.1)
+
+same_frame : (x f : Vec ℕ) → ◌≡◌ {A = Option (Vec ℕ)} (Some x) (Some f) → x ≡ f
+same_frame x f e = cc
+
+pub each_at : (s : SealerState) (ms : List Unsealed) (fs : List (Vec ℕ)) (k : ℕ) (m : Unsealed) (f : Vec ℕ) → SealsInTurn s ms fs
+    → slice_get ms k ≡ Some m → slice_get fs k ≡ Some f → SealsMessage (advanced_by s k) m f.items
+each_at s [] fs k m f h e g = absurd cc
+each_at s (x ∷ ms) [] k m f h e g = absurd cc
+each_at s (x ∷ ms) (y ∷ fs) zero m f h e g =
+    at_first (λ t. SealsMessage t m f.items) s
+    (subst (λ (z : Unsealed). SealsMessage s z f.items) (same_message x m e) (subst (λ (z : Vec ℕ). SealsMessage s x z.items) (same_frame y f g) h.0))
+each_at s (x ∷ ms) (y ∷ fs) (suc k) m f h e g = at_next (λ t. SealsMessage t m f.items) s k (each_at (advanced s) ms fs k m f h.1 e g)
+
+-- ---- what was refused
+
+pub refused_there : (s : SealerState) (ms : List Unsealed) (i : ℕ) (why : SealError) → RefusesFirst s ms i why → i < length ms
+refused_there s [] i why h = absurd h
+refused_there s (x ∷ ms) zero why h = omega arith
+refused_there s (x ∷ ms) (suc i) why h = omega (arith, refused_there (advanced s) ms i why h.1)
+
+pub can_before : (s : SealerState) (ms : List Unsealed) (i : ℕ) (why : SealError) (k : ℕ) (m : Unsealed) → RefusesFirst s ms i why → k < i
+    → slice_get ms k ≡ Some m → CanSeal (advanced_by s k) m
+can_before s [] i why k m h lt e = absurd h
+can_before s (x ∷ ms) zero why k m h lt e = absurd (omega (arith, lt))
+can_before s (x ∷ ms) (suc i) why zero m h lt e = at_first (λ t. CanSeal t m) s (subst (λ (z : Unsealed). CanSeal s z) (same_message x m e) h.0)
+can_before s (x ∷ ms) (suc i) why (suc k) m h lt e = at_next (λ t. CanSeal t m) s k (can_before (advanced s) ms i why k m h.1 (omega (arith, lt)) e)
+
+-- ---- what can be sealed, in numbers
+
+pub can_be_sealed : (s : SealerState) (m : Unsealed) → CanSeal s m ↔ ((s.wiped ≡ false) × (length m.user_data.now ≤ 1000001) × (s.next < 2 ^ 32))
+can_be_sealed s m = (
+  λ can. (can.live, omega (arith, can.short), omega (arith, can.left)),
+  λ is. record { live = is.0; short = omega (arith, is.1); left = omega (arith, is.2) },
+)

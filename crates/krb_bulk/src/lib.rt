@@ -7,6 +7,7 @@
 
 mod bulk;
 mod four;
+mod laws;
 mod many;
 mod many_error;
 mod private;
@@ -14,6 +15,7 @@ mod safe;
 mod unsealed;
 
 pub use four::{Four, eight_codes};
+pub use laws::bulk_laws;
 pub use many::{are_many, check_size, frames_of, seal_many};
 pub use many_error::ManyError;
 pub use unsealed::Unsealed;

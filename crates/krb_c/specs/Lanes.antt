@@ -32,6 +32,10 @@ pub record Adds (old : LaneState) (row : KrbStored) (opens place : ℕ) (new : L
   pub list : new.list ≡ old.list
   pub clock : new.clock ≡ old.clock
 
+-- its sessions, its list and its clock are as they were
+abbrev pub StaysAsItWas : LaneState → LaneState → Type 0
+StaysAsItWas old new = (new.sessions ≡ old.sessions) × (new.list ≡ old.list) × (new.clock ≡ old.clock)
+
 -- it has a session at this place, and so many frames more of it have numbers
 pub record CanSealAt (held : Option HeldLane) (place count : ℕ) : Type 0 where
   pub there : HasPlace held place

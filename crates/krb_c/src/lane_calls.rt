@@ -9,7 +9,7 @@ ghost use Rattle.krb_carrier_structs.specs.Numbers.{says};
 ghost use Rattle.krb_carrier_structs.specs.Receipt.{told_receipt};
 ghost use Rattle.krb_carrier_structs.specs.Sending.{Tells};
 ghost use Rattle.krb_c.specs.Queue.{out_of_memory};
-ghost use Rattle.krb_c.specs.Lanes.{Adds, CanHear, CanSealAt, HasPlace, HearsTold, TurnsTold, lane_of, told_list};
+ghost use Rattle.krb_c.specs.Lanes.{Adds, CanHear, CanSealAt, HasPlace, HearsTold, StaysAsItWas, TurnsTold, lane_of, told_list};
 ghost use Rattle.krb_engine.specs.Sending as engine;
 ghost use Rattle.krb_sender.specs.Lane.{AllAreAwake, Becomes, HasNoTurn, IsNext, IsSameButList, Was, no_sessions};
 ghost use Rattle.krb_sender.specs.Session.{loaded, released, stopped, with_end};
@@ -44,8 +44,7 @@ pub extern "C" fn krbrelay_lane_add(
     ensures added { result ≡ 0 → Adds (lane_of handle.old.lane) row.now opens place.new (lane_of handle.new.lane) }
     ensures memory { row.now.done ≤ row.now.carried → row.now.carried ≤ row.now.next
         → length (lane_of handle.old.lane).sessions < 2 ^ 32 - 1 → ¬ (result ≡ 0) → result ≡ out_of_memory }
-    ensures kept { ¬ (result ≡ 0)
-        → (lane_of handle.new.lane).sessions ≡ (lane_of handle.old.lane).sessions }
+    ensures kept { ¬ (result ≡ 0) → StaysAsItWas (lane_of handle.old.lane) (lane_of handle.new.lane) }
     ensures untold { ¬ (result ≡ 0) → place.new ≡ place.old }
 {
     if row.done > row.carried || row.carried > row.next {

@@ -5,6 +5,7 @@
 ghost use Rattle.std.specs.Prelude.{◌≡◌, ◌↔◌, ◌&&◌, ◌+◌, ◌-◌, ◌<◌, ◌≤◌, ◌^◌, true, false, None, length, slice_index_or, IsSome};
 ghost use Rattle.krb_engine.specs.declared.receiving.Receiving.{Receiving};
 ghost use Rattle.krb_carrier_structs.specs.Numbers.{says};
+ghost use Rattle.krb_carrier_structs.specs.Receipt.{told_receipt};
 ghost use Rattle.krb_carrier_structs.specs.Shard.{found_number, told_effects};
 ghost use Rattle.krb_carrier_structs.specs.Shards.{reading_told};
 ghost use Rattle.krb_c.specs.Queue.{out_of_memory};
@@ -446,6 +447,7 @@ pub extern "C" fn krbrelay_shard_receipt(
     ensures argument { ¬ (result ≡ 0) → result ≡ 912 }
     ensures held { IsSome handle.new.shard ↔ IsSome handle.old.shard }
     ensures pays { result ≡ 0 → PaysTold (shard_of handle.old.shard) now place.new receipt.new (shard_of handle.new.shard) }
+    ensures none { result ≡ 0 → told_receipt receipt.new ≡ None → (place.new ≡ place.old) × (receipt.new.asks ≡ 0) }
     ensures untold { ¬ (result ≡ 0) → (place.new ≡ place.old) × (receipt.new ≡ receipt.old) }
 {
     let Some(mut held) = handle.take(alloc) else {

@@ -3,3 +3,4 @@ pub mod TurnLemmas
 pub mod TakesTurnLemmas
 pub mod CodeLemmas
 pub mod TakenLemmas
+pub mod NumberLemmas

@@ -7,3 +7,4 @@ pub mod Packed
 pub mod Checks
 pub mod Takes
 pub mod Codes
+pub mod Laws

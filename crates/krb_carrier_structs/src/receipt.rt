@@ -1,6 +1,6 @@
 //! A receipt, as C writes it.
 
-ghost use Rattle.std.specs.Prelude.{◌≡◌};
+ghost use Rattle.std.specs.Prelude.{◌≡◌, None};
 ghost use Rattle.krb_carrier_structs.specs.Receipt.{told_receipt};
 
 use crate::numbers::{asks_of, number_of_owed};
@@ -38,7 +38,8 @@ impl KrbReceipt {
 
 /// The struct of a receipt, or of none.
 pub fn receipt_told(receipt: Option<(Receipt, Asks)>) -> KrbReceipt
-    ensures { told_receipt result ≡ receipt }
+    ensures value { told_receipt result ≡ receipt }
+    ensures none { receipt ≡ None → result.asks ≡ 0 }
 {
     match receipt {
         Some((receipt, asks)) => {

@@ -1,6 +1,6 @@
 //! The numbers of what C says of a receiver's shard with all its sessions, and of what that says.
 
-ghost use Rattle.std.specs.Prelude.{◌≡◌};
+ghost use Rattle.std.specs.Prelude.{◌≡◌, None};
 ghost use Rattle.krb_carrier_structs.specs.Receipt.{told_receipt};
 ghost use Rattle.krb_carrier_structs.specs.Shard.{found_number, receipt_due, then_number, told_effects, told_failure, turn_number, turn_time};
 
@@ -75,7 +75,8 @@ pub fn time_of_turn(turn: Turn) -> u64
 
 /// The struct of a receipt that leaves, or of none.
 pub fn due_told(due: Option<Due>) -> KrbReceipt
-    ensures { told_receipt result ≡ receipt_due due }
+    ensures value { told_receipt result ≡ receipt_due due }
+    ensures none { due ≡ None → result.asks ≡ 0 }
 {
     match due {
         Some(due) => receipt_told(Some((due.receipt, due.asks))),

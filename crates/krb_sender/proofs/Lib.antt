@@ -1,2 +1,3 @@
 pub mod TimesLemmas
 pub mod LaneLemmas
+pub mod TurnLemmas

@@ -1,6 +1,6 @@
 -- A shard of a sender, with all its sessions.
-use Rattle.std.specs.Prelude.{◌≡◌, ◌≢◌, ◌⊎◌, ℕ, ◌+◌, ◌-◌, ◌^◌, ◌<◌, ◌≤◌, ◌==◌, min, max, Bool, true, false, List, [], length, Option, Some, None, slice_index_or, slice_set}
-use Rattle.std.specs.List.{sum_by}
+use Rattle.std.specs.Prelude.{◌≡◌, ◌≢◌, ◌⊎◌, ℕ, ◌+◌, ◌*◌, ◌-◌, ◌^◌, ◌<◌, ◌≤◌, ◌==◌, nat_le, min, max, Bool, true, false, List, [], ◌∷◌, length, Option, Some, None, unwrap_or, slice_index_or, slice_set}
+use Rattle.std.specs.List.{count_by, sum_by}
 use Rattle.krb_carry.specs.declared.receipt.Receipt.{Receipt}
 use Rattle.krb_engine.specs.declared.pause.Pause.{Pause}
 use Rattle.krb_engine.specs.declared.sending.Asks.{Asks}
@@ -14,7 +14,7 @@ use Rattle.krb_sender.specs.declared.session.Heard.{Heard}
 use Rattle.krb_sender.specs.declared.session.Turn.{Turn}
 use Rattle.krb_sender.specs.declared.session.Turn.TheVariants.{Does, Held}
 use Rattle.krb_sender.specs.SessionState.{SessionState}
-use Rattle.krb_sender.specs.Session.{Receives, Serves, heard_list, is_idle, is_moved, is_over, weight}
+use Rattle.krb_sender.specs.Session.{Receives, Serves, heard_list, is_idle, is_moved, is_over, keeps_under_way, may_probe, weight}
 use Rattle.krb_sender.specs.Times.{IsFirstTime, NoneIsDue, never, time_of}
 
 -- within how many milliseconds a session is looked at that isn't done, one of which frames left, and one that is held or
@@ -151,6 +151,11 @@ look_time (Does (Probe number opening)) clock = after clock left_pause
 look_time (Does (Wake at)) clock = min (max at (after clock 1)) (after clock pause_most)
 look_time (Does Idle) clock = never
 
+-- its time has come; or it waited first, and there is room
+abbrev pub IsPicked : List ℕ → List ℕ → ℕ → ℕ → ℕ → List ℕ → Type 0
+IsPicked times queue room now place left =
+    ((time_of times place ≤ now) × (left ≡ queue)) ⊎ ((0 < room) × (queue ≡ place ∷ left))
+
 -- A turn is of one session, which hears of its shard's list and is served; the others are as they were.
 pub record Turns (old : LaneState) (served : Served) (new : LaneState) : Type 0 where
   pub list : ℕ
@@ -163,6 +168,23 @@ pub record Turns (old : LaneState) (served : Served) (new : LaneState) : Type 0 
   pub becomes : new.sessions ≡ slice_set old.sessions served.place after
   pub moved : served.is_moved ≡ is_moved before list
   pub serves : Serves (heard_list before list) (under_way_most - old.under_way) new.clock served.turn after
+
+-- How many turns there still are at this time, at most: two for each session whose time has come, and one for each that
+-- waits, for each of which a probe may leave, and for each frame for which there is room once all were looked at.
+abbrev pub turns_of : List SessionState → List ℕ → List ℕ → ℕ → ℕ → ℕ
+turns_of sessions queue times list clock =
+    2 * count_by (λ (at : ℕ). nat_le at clock) times
+    + length queue
+    + count_by (λ (it : SessionState). may_probe it clock) sessions
+    + (under_way_most - sum_by (λ (it : SessionState). keeps_under_way it list clock) sessions)
+
+abbrev pub turns_left : LaneState → ℕ → ℕ
+turns_left lane clock = turns_of lane.sessions lane.queue lane.times (unwrap_or lane.list 0) clock
+
+-- At one time there are at most so many turns: three for each session, one for each that waits, and one for each frame
+-- that may be under way.
+abbrev pub TurnsEnd : LaneState → Type 0
+TurnsEnd lane = turns_left lane lane.clock ≤ 3 * length lane.sessions + length lane.queue + 2048
 
 -- No session has its turn: the shard has no list; or no time has come, and none waits in the queue, or there is no room.
 abbrev pub HasNoTurn : LaneState → LaneState → Type 0

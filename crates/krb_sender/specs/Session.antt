@@ -110,3 +110,20 @@ Receives old receipt own asks now Ended new =
 Receives old receipt own asks now Again new =
     (is_over old ≡ false) × (old.end.done < receipt.number) × (receipt.number ≤ old.end.progress.next)
     × (own ≡ Fault) × (new ≡ old)
+
+-- ---- turns at one time
+
+-- its pauses take some time
+abbrev pub IsPaced : SendingState → Type 0
+IsPaced end = (0 < end.again.length) × (0 < end.probe.length)
+
+-- what it has under way once it was looked at: neither what is overdue, nor what counted for a different list
+abbrev pub flight : SendingState → ℕ
+flight end = end.progress.sent - end.progress.carried
+
+abbrev pub keeps_under_way : SessionState → ℕ → ℕ → ℕ
+keeps_under_way it list now = if is_over it then 0 else flight (engine.looked (engine.listed it.end list) now)
+
+-- a probe may leave
+abbrev pub may_probe : SessionState → ℕ → Bool
+may_probe it now = engine.is_unanswered it.end now

@@ -7,7 +7,7 @@ ghost use Rattle.krb_engine.specs.Sending as engine;
 ghost use Rattle.krb_sender.specs.Times.{NoneIsDue, time_of};
 ghost use Rattle.krb_sender.specs.Session.{is_idle, loaded, released, stopped, weight, with_end};
 ghost use Rattle.krb_sender.specs.SessionState.{SessionState};
-ghost use Rattle.krb_sender.specs.Lane.{AllAreAwake, Becomes, HasNoTurn, HasRoom, Hears, IsAwake, IsNext, NoneIsForgotten, NoneWaitsInVain, RoomComes, RoomIsTheSum, Turns, Was, look_time, memory_pause, more_of, no_sessions, room_with, IsSameButList};
+ghost use Rattle.krb_sender.specs.Lane.{AllAreAwake, Becomes, HasNoTurn, HasRoom, Hears, IsAwake, IsNext, IsPicked, NoneIsForgotten, NoneWaitsInVain, RoomComes, RoomIsTheSum, Turns, TurnsEnd, Was, look_time, memory_pause, more_of, no_sessions, room_with, turns_left, IsSameButList};
 
 use crate::{Heard, Own, Row, Session, Times, Turn};
 use krb_carry::Receipt;
@@ -126,6 +126,7 @@ impl Lane {
         ensures some { IfSome result (λ served. Turns self.old served self.new) }
         ensures none { IfNone result (HasNoTurn self.old self.new) }
         ensures later { IfSome result (λ served. self.new.clock < 2 ^ 64 - 1 → self.new.clock < time_of self.new.times served.place) }
+        ensures ends { IfSome result (λ served. self.new.clock < 2 ^ 64 - 1 → turns_left self.new self.new.clock < turns_left self.old self.new.clock) }
         ensures clock { self.new.clock ≡ max self.old.clock now }
     {
         self.clock = self.clock.max(now);
@@ -295,13 +296,16 @@ impl Lane {
     /// (`none_is_forgotten`); one that could publish if there were room waits for its turn, or is looked at within a tenth
     /// of a second (`none_waits_in_vain`). What is under way is the sum of what its sessions have under way, and one that
     /// is over has none (`room_is_the_sum`); a shard that has a list has room for the rest of its bound (`has_room`); and
-    /// while something is under way, some session that has it is looked at within 64 seconds (`room_comes`).
+    /// while something is under way, some session that has it is looked at within 64 seconds (`room_comes`). At one time
+    /// there are finitely many turns: each leaves fewer (`turn`, `ends`), and there are at most three for each session, one
+    /// for each that waits, and one for each frame that may be under way (`turns_end`).
     pub fn laws(&self)
         ensures none_is_forgotten { NoneIsForgotten self.now }
         ensures none_waits_in_vain { NoneWaitsInVain self.now }
         ensures room_is_the_sum { RoomIsTheSum self.now }
         ensures has_room { HasRoom self.now }
         ensures room_comes { RoomComes self.now }
+        ensures turns_end { TurnsEnd self.now }
     {
         let _ = &self.sessions;
     }
@@ -324,6 +328,7 @@ fn pick(times: &Times, queue: &mut Queue, room: u64, now: u64) -> Option<u32>
     ensures none { IfNone result ((queue.new ≡ queue.old) × NoneIsDue times.now now × ((room ≡ 0) ⊎ (queue.old ≡ []))) }
     ensures others { IfSome result (λ place. (k : ℕ) → k ≢ place → has queue.new k ≡ has queue.old k) }
     ensures there { IfSome result (λ place. (place < length times.now) ⊎ (has queue.old place ≡ true)) }
+    ensures picked { IfSome result (λ place. IsPicked times.now queue.old room now place queue.new) }
 {
     if let Some(place) = due(times, now) {
         return Some(place);
@@ -358,6 +363,8 @@ fn remember(queue: &mut Queue, times: &mut Times, place: u32, at: u64, has_more:
     ensures time { time_of times.new place ≤ at }
     ensures later { clock < 2 ^ 64 - 1 → clock < at → clock < time_of times.new place }
     ensures more { has_more ≡ true → (has queue.new place ≡ true) ⊎ (time_of times.new place ≤ clock + memory_pause) }
+    ensures set { times.new ≡ slice_set times.old place (time_of times.new place) }
+    ensures short { length queue.new ≤ length queue.old + (if has_more then 1 else 0) }
 {
     times.set(place, at);
     if has_more && queue.ready(place).is_err() {

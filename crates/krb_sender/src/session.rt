@@ -3,7 +3,7 @@
 ghost use Rattle.std.specs.Prelude.{◌≡◌, ◌↔◌, ◌+◌, ◌<◌, ◌≤◌, ◌^◌, true, false, IsTrue, if◌then◌else◌};
 ghost use Rattle.krb_carry.specs.Progress.{Counts};
 ghost use Rattle.krb_engine.specs.Sending as engine;
-ghost use Rattle.krb_sender.specs.Session.{Receives, Serves, compared, heard_list, heard_of, is_held, is_idle, is_moved, is_over, loaded, released, stopped, weight, with_end};
+ghost use Rattle.krb_sender.specs.Session.{IsPaced, Receives, Serves, compared, heard_list, heard_of, is_held, is_idle, is_moved, is_over, loaded, released, stopped, weight, with_end};
 
 use krb_carry::{HISTORY_SIZE, Receipt};
 use krb_engine::{Asks, Command, Sending};
@@ -67,11 +67,14 @@ pub struct Session {
 }
 
 impl Model for Session {
+    ghost use Rattle.krb_sender.specs.Session.{IsPaced};
     ghost use Rattle.krb_sender.specs.SessionState.{SessionState};
 
     ghost Value = { SessionState };
 
     ghost view = { λ it. record { end = it.end; opens = it.opens; may_open = it.may_open; is_stopped = it.is_stopped } };
+
+    ghost invariant = { λ it. IsPaced it.end };
 }
 
 impl Session {
@@ -167,7 +170,10 @@ impl Session {
     pub fn serve(&mut self, room: u64, now: u64) -> Turn
         ensures does { Serves self.old room now result self.new }
         ensures room { weight self.new ≤ weight self.old + room }
+        ensures order { self.old.end.progress.carried ≤ self.old.end.progress.sent }
+        ensures paced { IsPaced self.new.end }
     {
+        let _ = self.end.is_settled();
         if self.is_over() {
             return Turn::Does(Command::Idle);
         }
