@@ -36,7 +36,7 @@ struct lane {
     int has_spare;
     int has_list;                /* the list to which frames are published can be had */
     uint64_t unlisted;           /* since this moment it can't; 0: it can, or nobody asked */
-    uint64_t uncarried, unconfirmed, unreceipted; /* frames of its sessions, as of all, */
+    uint64_t uncarried, awaited, unreceipted; /* frames of its sessions, as of all, */
     uint64_t undone;             /* and those that didn't take effect, of sessions that aren't stopped */
 };
 
@@ -85,8 +85,8 @@ struct sender {
     int is_unknown;             /* a transaction may have been stored or not: the sessions are loaded anew */
     char unknown[CARRIER_NAME]; /* the last session without a line that was reported */
     unsigned long published, again, receipts;
-    uint64_t uncarried, unconfirmed, unreceipted; /* frames of all sessions that aren't carried; that have left, and
-                                 * aren't confirmed; that are carried, and wait for a receipt */
+    uint64_t uncarried, awaited, unreceipted; /* frames of all sessions that aren't carried; that have left, and
+                                 * wait for the carrier's answer; that are carried, and wait for a receipt */
     size_t held, standing;      /* sessions that are held (seal.h); that stand */
     uint64_t kept_moment;       /* when the outbox was written last, in milliseconds */
     uint64_t heard;             /* it was looked for receipts at this moment, */

@@ -54,6 +54,8 @@ PASSES = [
     Row("restored+tickets", 3),                 # a stream's session that is refused counted as a carrier that is away
     Row("lost+slow+tickets+keys+kdc", 5),       # so did sessions that wait for the one before them
     Row("outbox_unknown", 4),                   # a commit that happened and said no left sessions standing, untold
+    Row("cut+purged+clock", 1, "", 33),         # what a shard took that was cut below a session's place counted as
+    Row("cut+stopped+refused+calm", 1, "", 20010),     # unanswered: frames that don't count there
     Row("forked+tickets+keys", 1, "", 4),             # where a key was tried again, stopped sessions weren't named any more
     # Bounds of time and growth.
     Row("calm", 6),
