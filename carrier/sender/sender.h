@@ -89,8 +89,8 @@ struct sender {
                                  * wait for the carrier's answer; that are carried, and wait for a receipt */
     size_t held, standing;      /* sessions that are held (seal.h); that stand */
     uint64_t kept_moment;       /* when the outbox was written last, in milliseconds */
-    uint64_t heard;             /* it was looked for receipts at this moment, */
-    int is_unheard;             /* and it has to be again: some may have come since, or can't be heard now */
+    int is_unheard;             /* it has to be looked for receipts: some may have come, */
+    struct krbrelay_pause hearing, hearing_again; /* after these pauses; and what can't be heard now is tried again */
     uint64_t rests;             /* after a fault nothing is done before this moment, in milliseconds */
     uint64_t storing, carrying; /* nanoseconds */
     uint64_t rose;              /* when a frame was carried last, or the carrier was there and none waited, */
