@@ -103,7 +103,7 @@ MUTANTS = {
     "frames go once they are carried": ("deleted+killed", 3, "LOST"),
     "receipts of other frames count": ("forked+killed", 1, "LOST"),
     "receipts from before aren't read": ("restored", 6, "LEFT_OUT"),
-    "later texts are taken first": ("bursts+carrier", 21, "OVERTAKEN"),
+    "later texts are taken first": ("bursts+carrier", 14, "OVERTAKEN"),
     "receipts aren't sealed again": ("lost+killed", 1, "STANDS"),
     "a stream goes on without its key": ("keys+tickets", 2, "OVERTAKEN"),
     "no session waits for the one before": ("cut+killed+slow+tickets", 7, "OVERTAKEN"),
