@@ -245,14 +245,29 @@ static int count_of(const char *where)
     return count;
 }
 
+static const char *what_to_do(natsStatus status)
+{
+    switch (status) {
+    case NATS_SSL_ERROR:
+    case NATS_SECURE_CONNECTION_REQUIRED:
+    case NATS_SECURE_CONNECTION_WANTED:
+        return "a server answers, and TLS fails: is its certificate one of --tls-ca, with the name of --tls-name, and"
+               " not expired? Does it ask for one, as --tls-cert?";
+    case NATS_CONNECTION_AUTH_FAILED:
+        return "a server answers, and doesn't know this user: look at --credentials";
+    default:
+        return "no server answers: start nats-server with JetStream there (carrier/cluster starts three), or name"
+               " another --carrier";
+    }
+}
+
 static void report_unopened(const char *where, natsStatus status)
 {
     int has_password = strchr(where, '@') != NULL;
+    const char *detail = nats_GetLastError(NULL); /* such as that a certificate has expired */
     log_fact(LEVEL_ERROR, "carrier_unopened", field_number("servers", (uint64_t)count_of(where)),
-             field_text("carrier", has_password ? "" : where),
-             field_text("fault", natsStatus_GetText(status)),
-             field_text("text", "no server answers: start nats-server with JetStream there"
-                                " (carrier/cluster starts three), or name another --carrier"));
+             field_text("carrier", has_password ? "" : where), field_text("fault", natsStatus_GetText(status)),
+             field_text("detail", has_password || detail == NULL ? "" : detail), field_text("text", what_to_do(status)));
 }
 
 struct carrier *nats_carrier_open(const struct carrier_options *options)

@@ -646,8 +646,8 @@ def openssl(place, *words):
                    stdout=subprocess.DEVNULL, stderr=subprocess.DEVNULL)
 
 
-def make_certificates(place):
-    """Two authorities, `ca` and `other`; `node` and `client` have certificates of the first."""
+def make_certificates(place, days):
+    """Two authorities, `ca` and `other`; `node` and `client` have certificates of the first, for so many days."""
     new = ("-newkey", "ec", "-pkeyopt", "ec_paramgen_curve:P-256", "-nodes")
     for name in ("ca", "other"):
         openssl(place, "req", "-x509", *new, "-keyout", f"{name}.key", "-out", f"{name}.pem", "-days",
@@ -657,13 +657,13 @@ def make_certificates(place):
         openssl(place, "req", *new, "-keyout", f"{name}.key", "-out", f"{name}.csr", "-subj",
                 f"/CN={name}.test")
         openssl(place, "x509", "-req", "-in", f"{name}.csr", "-CA", "ca.pem", "-CAkey", "ca.key",
-                "-CAcreateserial", "-days", "2", "-extfile", f"{name}.ext", "-out", f"{name}.pem")
+                "-CAcreateserial", "-days", days, "-extfile", f"{name}.ext", "-out", f"{name}.pem")
 
 
-def start_secured(place):
+def start_secured(place, days="2"):
     """A node with TLS, which asks for certificates, and a user for each program with what it needs to
     publish and no more. The options of each program."""
-    make_certificates(place)
+    make_certificates(place, days)
     users = ", ".join(
         f'{{ user: {name}, password: "{WORDS[name]}", permissions: {{ subscribe: {list(HEARS[name])},'
         f' publish: {{ allow: {list(MAY[name])} }} }} }}'.replace("'", '"') for name in WORDS)
@@ -679,6 +679,15 @@ def start_secured(place):
                        "tls-cert": f"{place.folder}/client.pem",
                        "tls-key": f"{place.folder}/client.key"}
     return given
+
+
+def expired(place):
+    """The node's certificate has expired: both programs say so, and not that no server answers."""
+    given = start_secured(place, "-1")
+    for name in given:
+        status, told = place.run(name, seconds=20, **given[name])
+        place.require(status == 1 and loglines.has(told, "carrier_unopened") and "certificate has expired" in told
+                      and "no server answers" not in told, f"{name}: status {status}: {told[-300:]}")
 
 
 def secured(place):
@@ -1557,6 +1566,7 @@ CASES = (
     Case(session_moved, "a session gets another shard", {"ann": 110, "tom": 5}, 15,
          (ANN, TOM_1), "0,1", nats=""),
     Case(gap, "150 frames are deleted before they are read", {}, 10, nats=""),
+    Case(expired, "a node whose certificate has expired", {}, 20, (ANN,)),
     Case(secured, "a node with TLS and users, and who has other certificates or another password",
          {"ann": 200}, 20, (ANN,)),
     Case(passwords, "passwords in options, where something is wrong", {}, 60, (ANN,)),
