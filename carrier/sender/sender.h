@@ -93,7 +93,7 @@ struct sender {
     struct krbrelay_pause hearing, hearing_again; /* after these pauses; and what can't be heard now is tried again */
     uint64_t rests;             /* after a fault nothing is done before this moment, in milliseconds */
     uint64_t storing, carrying; /* nanoseconds */
-    uint64_t rose;              /* when a frame was carried last, or the carrier was there and none waited, */
+    uint64_t rose;              /* when a frame was carried last, or the carrier was there and none waited for it, */
     uint64_t told;              /* and when it was reported that none is, or there was no reason to */
     uint64_t left_moment;       /* keys that couldn't be read are tried again then; 0: all could be, */
     unsigned left_tries;        /* and so often they were tried in vain */
