@@ -5,6 +5,7 @@
 #include "carrier.h"
 #include "clock.h"
 #include "database.h"
+#include "effect.h"
 #include "ending.h"
 #include "waiting.h"
 
@@ -26,16 +27,13 @@ static const char *const outbox_sql[OUTBOX] = {
     [SELECT] = "SELECT id, session, body FROM sealed WHERE id > ? ORDER BY id",
 };
 
-static const char store_tables[] =
-    "CREATE TABLE IF NOT EXISTS effect (id INTEGER PRIMARY KEY AUTOINCREMENT, session TEXT NOT NULL, text BLOB);"
-    "CREATE TABLE IF NOT EXISTS shard (shard INTEGER PRIMARY KEY, offset INTEGER NOT NULL)";
-
 struct bare {
     sqlite3 *db;
     struct carrier *carrier;
-    struct statement statements[OUTBOX], move;
-    struct rows rows;
+    struct store *store;
+    struct statement statements[OUTBOX];
     struct waiting waiting;
+    struct reached reached;
     uint64_t list, last, dropped, kept; /* the last row that is carried; that is dropped, and when something was stored */
     struct carried frames[TAKEN];
     struct confirmed confirmed[TAKEN];
@@ -87,9 +85,19 @@ static int has_text(struct bare *b)
     return row == 1;
 }
 
+/* Waits until there is a list to which frames are published. */
+static void await_list(struct bare *b)
+{
+    while (b->list == 0 && !is_ending()) {
+        (void)b->carrier->make(b->carrier, 0, &b->list); /* a fault is reported, and it is tried again */
+        (void)b->carrier->confirmed(b->carrier, b->confirmed, TAKEN, SHORT);
+    }
+}
+
 static int send_all(struct bare *b)
 {
-    int answer = b->carrier->make(b->carrier, 0, &b->list);
+    int answer = 0;
+    await_list(b);
     while (answer == 0 && !is_ending()) {
         int texts = has_text(b), is_due = b->dropped < b->last && milliseconds() - b->kept >= SHORT;
         if (texts || is_due)
@@ -102,17 +110,20 @@ static int send_all(struct bare *b)
 
 /* ---- The receiver */
 
+/* Stores the effects of these frames, and how far the shard was read. */
 static int store_frames(struct bare *b, int count)
 {
-    int i, answer = begin_writing(b->db);
+    struct reached to = { b->list, b->frames[count - 1].offset };
+    int i, answer = store_begin(b->store, 0, &b->reached, &to);
     for (i = 0; i < count && answer == 0; i++) {
-        int at = next_row(&b->rows);
-        bind_name(&b->rows, at + 1, b->frames[i].session);
-        bind_copy(&b->rows, at + 2, b->frames[i].frame, b->frames[i].len);
-        answer = add_row(&b->rows);
+        const struct carried *it = &b->frames[i];
+        struct arrived text = { it->session, "", "", it->offset, 0, it->frame, it->len };
+        answer = take_effect(b->store, &text);
     }
-    bind_number(&b->move, 1, (sqlite3_int64)b->frames[count - 1].offset);
-    return answer != 0 || insert_rows(&b->rows) != 0 || step_once(&b->move) != 0 ? -1 : run(b->db, "COMMIT");
+    if (answer != 0 || b->store->commit(b->store) != 0)
+        return -1;
+    b->reached = to;
+    return 0;
 }
 
 static int receive_all(struct bare *b)
@@ -134,20 +145,21 @@ static int receive_all(struct bare *b)
 
 /* ---- */
 
-static int begin(struct bare *b, int sends, const char *path, const struct carrier_options *options)
+static int begin(struct bare *b, int sends, const char *where, const struct carrier_options *options)
 {
     waiting_begin(&b->waiting, 0);
     b->carrier = carrier_open(options);
-    b->db = open_database(path, sends ? outbox_tables : store_tables);
-    if (b->carrier == NULL || b->db == NULL)
+    if (b->carrier == NULL)
         return -1;
-    if (sends || b->carrier->file != NULL)
-        waiting_watch(&b->waiting, sends ? path : b->carrier->file);
-    if (sends)
-        return prepare_all(b->db, b->statements, outbox_sql, OUTBOX);
-    return prepare_rows(b->db, &b->rows, "INSERT INTO effect (session, text) VALUES (?, ?)") != 0 ? -1
-        : prepare(b->db, &b->move, "INSERT INTO shard VALUES (0, ?) ON CONFLICT (shard) DO UPDATE SET offset ="
-                                   " excluded.offset");
+    if (!sends) {
+        b->store = store_open(where, 0);
+        if (b->carrier->file != NULL)
+            waiting_watch(&b->waiting, b->carrier->file);
+        return b->store != NULL ? 0 : -1;
+    }
+    b->db = open_database(where, outbox_tables);
+    waiting_watch(&b->waiting, where);
+    return b->db != NULL ? prepare_all(b->db, b->statements, outbox_sql, OUTBOX) : -1;
 }
 
 int main(int count, char **words)
