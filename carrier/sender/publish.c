@@ -47,18 +47,19 @@ static void count_anew(struct sender *s, struct sending *it)
 {
     const struct krbrelay_progress *progress = &it->end.progress;
     struct lane *lane = &s->lanes[it->lane];
-    uint64_t stored, undone;
+    uint64_t stored, undone, known;
     if (publish_look(s, it) != 0)
         return; /* never: each session has its place */
     s->held -= it->is_held && progress->sent > 0;
     it->is_held = it->is_held && progress->sent == 0; /* a receipt says that its opening was taken before */
     stored = progress->next - progress->carried;
+    known = it->answered > progress->carried ? it->answered : progress->carried;
     undone = it->stopped_at != 1 ? progress->next - it->end.done : 0;
     it->room = it->stopped_at == 1 || it->is_deaf || stored > STORED ? 0 : STORED - stored;
     lane->undone = lane->undone - it->undone + undone;
     it->undone = undone;
     count(&lane->uncarried, &s->uncarried, &it->uncarried, leaves(it) ? stored : 0);
-    count(&lane->unconfirmed, &s->unconfirmed, &it->unconfirmed, leaves(it) ? progress->sent - progress->carried : 0);
+    count(&lane->awaited, &s->awaited, &it->awaited, leaves(it) && progress->sent > known ? progress->sent - known : 0);
     count(&lane->unreceipted, &s->unreceipted, &it->unreceipted,
           it->stopped_at != 1 ? progress->carried - it->end.done : 0);
 }
@@ -162,6 +163,7 @@ static uint64_t perform(struct sender *s, struct sending *it, const struct krbre
     case KRBRELAY_COMMAND_PUBLISH:
         s->again += command->number < it->left ? it->left - command->number : 0;
         it->left = command->number + command->count > it->left ? command->number + command->count : it->left;
+        it->answered = command->number < it->answered ? command->number : it->answered;
         publish_frames(s, it, command->number, command->count);
         return command->count;
     case KRBRELAY_COMMAND_PROBE:
@@ -303,6 +305,20 @@ static void note_carried(struct sender *s, struct sending *it)
     note_next(s, it);
 }
 
+/* The carrier has the frame: whether that counts. It doesn't where the shard lost frames that this session has as
+ * carried, until the shard is as long again; but the carrier has answered. */
+static int take_confirmed(struct sender *s, struct sending *it, const struct confirmed *of, uint64_t now)
+{
+    uint32_t counts = 0;
+    if (!publish_has(it, krbrelay_lane_confirmed(&s->lanes[it->lane].ends, it->place, of->number, of->offset, now, &counts)))
+        return 0;
+    if (of->number >= it->answered)
+        it->answered = of->number + 1;
+    if (!counts)
+        count_anew(s, it);
+    return (int)counts;
+}
+
 /* Confirmations of a session come one after another: it is noted once for all of them. */
 size_t publish_count_carried(struct sender *s, int milliseconds_to_wait)
 {
@@ -313,11 +329,7 @@ size_t publish_count_carried(struct sender *s, int milliseconds_to_wait)
     uint64_t now = milliseconds();
     for (i = 0; i < found; i++) {
         struct sending *it = of_tag(s, list[i].tag);
-        uint32_t counts = 0;
-        if (it == NULL
-            || !publish_has(it, krbrelay_lane_confirmed(&s->lanes[it->lane].ends, it->place, list[i].number,
-                                                        list[i].offset, now, &counts))
-            || !counts)
+        if (it == NULL || !take_confirmed(s, it, &list[i], now))
             continue;
         if (last != NULL && last != it)
             note_carried(s, last);

@@ -187,13 +187,13 @@ static enum outbox_answer store(struct sender *s, int with_texts)
 
 /* ---- One round */
 
-/* How many frames wait for the carrier alone: they left and aren't confirmed, or their shard can't be had. */
+/* How many frames wait for the carrier alone: it hasn't answered since they left, or their shard can't be had. */
 static uint64_t awaited(const struct sender *s)
 {
     uint64_t frames = 0;
     size_t i;
     for (i = 0; i < s->lane_count; i++)
-        frames += s->lanes[i].has_list ? s->lanes[i].unconfirmed : s->lanes[i].uncarried;
+        frames += s->lanes[i].has_list ? s->lanes[i].awaited : s->lanes[i].uncarried;
     return frames;
 }
 

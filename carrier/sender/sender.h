@@ -36,7 +36,7 @@ struct lane {
     int has_spare;
     int has_list;                /* the list to which frames are published can be had */
     uint64_t unlisted;           /* since this moment it can't; 0: it can, or nobody asked */
-    uint64_t uncarried, unconfirmed, unreceipted; /* frames of its sessions, as of all, */
+    uint64_t uncarried, awaited, unreceipted; /* frames of its sessions, as of all, */
     uint64_t undone;             /* and those that didn't take effect, of sessions that aren't stopped */
 };
 
@@ -85,15 +85,15 @@ struct sender {
     int is_unknown;             /* a transaction may have been stored or not: the sessions are loaded anew */
     char unknown[CARRIER_NAME]; /* the last session without a line that was reported */
     unsigned long published, again, receipts;
-    uint64_t uncarried, unconfirmed, unreceipted; /* frames of all sessions that aren't carried; that have left, and
-                                 * aren't confirmed; that are carried, and wait for a receipt */
+    uint64_t uncarried, awaited, unreceipted; /* frames of all sessions that aren't carried; that have left, and
+                                 * wait for the carrier's answer; that are carried, and wait for a receipt */
     size_t held, standing;      /* sessions that are held (seal.h); that stand */
     uint64_t kept_moment;       /* when the outbox was written last, in milliseconds */
-    uint64_t heard;             /* it was looked for receipts at this moment, */
-    int is_unheard;             /* and it has to be again: some may have come since, or can't be heard now */
+    int is_unheard;             /* it has to be looked for receipts: some may have come, */
+    struct krbrelay_pause hearing, hearing_again; /* after these pauses; and what can't be heard now is tried again */
     uint64_t rests;             /* after a fault nothing is done before this moment, in milliseconds */
     uint64_t storing, carrying; /* nanoseconds */
-    uint64_t rose;              /* when a frame was carried last, or the carrier was there and none waited, */
+    uint64_t rose;              /* when a frame was carried last, or the carrier was there and none waited for it, */
     uint64_t told;              /* and when it was reported that none is, or there was no reason to */
     uint64_t left_moment;       /* keys that couldn't be read are tried again then; 0: all could be, */
     unsigned left_tries;        /* and so often they were tried in vain */

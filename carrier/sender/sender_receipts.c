@@ -15,7 +15,7 @@
 #include <stdlib.h>
 #include <string.h>
 
-enum { PAUSE = 20 }; /* milliseconds between two looks for receipts */
+enum { PAUSE = 20, PAUSE_MOST = 1000 }; /* milliseconds between two looks for receipts; after faults, at most */
 
 /* Why a session is stopped whose texts stay in the outbox, and of which nothing leaves any more. */
 static void write_reason(struct sending *it, uint64_t n)
@@ -243,20 +243,34 @@ static void hear_again(struct sender *s)
     s->deaf.count = left;
 }
 
+/* The next look comes after a pause, which is twice as long after each fault. */
+static void begin_pause(struct krbrelay_pause *pause, int is_fault)
+{
+    if (is_fault && pause->length > 0)
+        krbrelay_pause_grow(pause, PAUSE_MOST, milliseconds());
+    else
+        krbrelay_pause_begin(pause, PAUSE, milliseconds());
+}
+
 void receipts_hear(struct sender *s)
 {
+    int is_fault;
     s->is_unheard = 1;
-    if (milliseconds() - s->heard < PAUSE)
+    if (s->deaf.count > 0 && krbrelay_pause_is_over(&s->hearing_again, milliseconds())) {
+        hear_again(s);
+        begin_pause(&s->hearing_again, s->deaf.count > 0);
+    }
+    if (!krbrelay_pause_is_over(&s->hearing, milliseconds()))
         return;
-    s->heard = milliseconds();
-    hear_again(s);
-    if (s->carrier->receipts(s->carrier, hear, s) != 0)
-        return; /* which is reported */
-    s->has_heard = 1;
-    s->is_unheard = s->deaf.count > 0 || s->carrier->file == NULL;
+    is_fault = s->carrier->receipts(s->carrier, hear, s) != 0; /* which is reported */
+    begin_pause(&s->hearing, is_fault);
+    s->has_heard |= !is_fault;
+    s->is_unheard = is_fault || s->carrier->file == NULL;
 }
 
 uint64_t receipts_next_time(const struct sender *s)
 {
-    return s->is_unheard ? s->heard + PAUSE : UINT64_MAX;
+    uint64_t unheard = s->is_unheard ? krbrelay_pause_end(&s->hearing) : UINT64_MAX;
+    uint64_t deaf = s->deaf.count > 0 ? krbrelay_pause_end(&s->hearing_again) : UINT64_MAX;
+    return unheard < deaf ? unheard : deaf;
 }

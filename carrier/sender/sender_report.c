@@ -34,7 +34,7 @@ static const struct metric metrics[] = {
     { NAME "held_sessions", "gauge", "Sessions that wait for a ticket, or for the one before", NULL },
     { NAME "standing_sessions", "gauge", "Sessions that stand: nobody confirms, answers or takes their frames", NULL },
     { NAME "stopped_sessions", "gauge", "Sessions that are stopped", NULL },
-    { NAME "silent_seconds", "gauge", "Since a frame was carried, if any waits or the carrier is away",
+    { NAME "silent_seconds", "gauge", "Since a frame was carried, if any waits for the carrier's answer or the carrier is away",
       NULL },
     DELAY_BOUNDS(DELAYS_UP_TO)
     { NAME "delay_seconds_bucket", "histogram", DELAYS_HELP, "le=\"+Inf\"" },

@@ -206,7 +206,7 @@ void sender_forget(struct sender *s)
     list_forget(&s->untold);
     list_forget(&s->deaf);
     s->held = 0;
-    s->uncarried = s->unconfirmed = s->unreceipted = 0;
+    s->uncarried = s->awaited = s->unreceipted = 0;
     s->has_begun = 0;
     s->seen = 0;
     s->unknown[0] = 0;

@@ -21,6 +21,7 @@ static uint64_t turns;
 static unsigned long published[MOST_NAMES + 1], under_way[SHARDS];
 static unsigned char left[MOST_NAMES + 1][MOST_TEXTS];
 static unsigned said_of[MOST_NAMES + 1];
+static unsigned looks[PARTIES], answered_looks[PARTIES];
 
 /* A confirmation that is under way. */
 struct answer { uint64_t due; struct confirmed it; struct answer *next; };
@@ -119,6 +120,16 @@ unsigned long frames_published(unsigned name)
 unsigned frames_left(unsigned name, unsigned number)
 {
     return left[name][number];
+}
+
+unsigned frames_vain_looks(void)
+{
+    unsigned i, most = 0;
+    for (i = 0; i < PARTIES; i++) {
+        most = answered_looks[i] == 0 && looks[i] > most ? looks[i] : most;
+        looks[i] = answered_looks[i] = 0;
+    }
+    return most;
 }
 
 unsigned long frames_under_way(unsigned shard)
@@ -355,8 +366,10 @@ static int give_receipts(struct carrier *base, carrier_receipt *take, void *give
 {
     struct connection *c = (struct connection *)base;
     size_t i;
+    looks[running]++;
     if (fails())
         return CARRIER_FAULT;
+    answered_looks[running]++;
     for (i = 0; i < receipts.count; i++) {
         const struct item *it = &receipts.at[i];
         if (it->turn <= c->heard)

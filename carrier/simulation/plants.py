@@ -115,7 +115,7 @@ FOUND = {
     "what was told is forgotten where a key is tried again": ("forked+tickets+keys", 4, "UNTOLD"),
     "a failed text is put aside at once": ("refused_a_while+aside", 2, "ASIDE_EARLY"),
     "a failed text is never put aside": ("refused+aside", 1, "NOT_ASIDE"),
-    "a session is forgotten before the next one has begun": ("tickets+killed+carrier", 3, "STANDS"),
+    "a session is forgotten before the next one has begun": ("tickets+killed+carrier", 4, "STANDS"),
     "a receiver idles for some minutes": ("lost", 1, "LATE"),
     "a sender has no round each second": ("later", 1, "UNHEALTHY"),
     "frames that are done stay": ("calm", 1, "KEPT"),

@@ -47,7 +47,9 @@ unsigned frames_receipts_kept(unsigned name);
 unsigned long frames_published(unsigned name);
 unsigned frames_left(unsigned name, unsigned number);
 
-/* Since the last look: how many frames left of a shard, beside those that were confirmed; receipts of a name. */
+/* Since the last look: how often a sender looked for receipts, and was never answered; how many frames left of a shard, beside
+ * those that were confirmed; receipts of a name. */
+unsigned frames_vain_looks(void);
 unsigned long frames_under_way(unsigned shard);
 unsigned frames_receipts(unsigned name);
 

@@ -54,6 +54,8 @@ PASSES = [
     Row("restored+tickets", 3),                 # a stream's session that is refused counted as a carrier that is away
     Row("lost+slow+tickets+keys+kdc", 5),       # so did sessions that wait for the one before them
     Row("outbox_unknown", 4),                   # a commit that happened and said no left sessions standing, untold
+    Row("cut+purged+clock", 1, "", 33),         # what a shard took that was cut below a session's place counted as
+    Row("cut+stopped+refused+calm", 1, "", 20010),     # unanswered: frames that don't count there
     Row("forked+tickets+keys", 1, "", 4),             # where a key was tried again, stopped sessions weren't named any more
     # Bounds of time and growth.
     Row("calm", 6),
@@ -101,7 +103,7 @@ MUTANTS = {
     "frames go once they are carried": ("deleted+killed", 3, "LOST"),
     "receipts of other frames count": ("forked+killed", 1, "LOST"),
     "receipts from before aren't read": ("restored", 6, "LEFT_OUT"),
-    "later texts are taken first": ("bursts+carrier", 21, "OVERTAKEN"),
+    "later texts are taken first": ("bursts+carrier", 14, "OVERTAKEN"),
     "receipts aren't sealed again": ("lost+killed", 1, "STANDS"),
     "a stream goes on without its key": ("keys+tickets", 2, "OVERTAKEN"),
     "no session waits for the one before": ("cut+killed+slow+tickets", 7, "OVERTAKEN"),

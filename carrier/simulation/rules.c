@@ -14,6 +14,7 @@ enum {
     FRAMES_OF_A_TEXT = 30, FRAMES_OF_A_SECOND = 40, FRAMES = 200, /* so many may be published at most */
     EFFECTS = 4, EFFECTS_OF_A_FAULT = 2,                          /* so often may an effect be run */
     CALLS = 40000, SPINNING = 10,                                 /* of SQL in a second; seconds of a run that is ended */
+    VAIN_LOOKS = 20,                                              /* for receipts in a second */
     UNHEALTHY = 12, UNSEEN = 5,                                   /* seconds */
     LOOKED_EACH = 5, TRIES = 3,
     UNDER_WAY = 2048, PROMPT = 12,                                /* frames of a shard; seconds of a text in a calm run, .. */
@@ -313,7 +314,10 @@ static void look_at_frames(unsigned name)
 static void look_at_calls(void)
 {
     unsigned long calls = statements_calls() - calls_before;
+    unsigned looks = frames_vain_looks();
     calls_before += calls;
+    if (looks > VAIN_LOOKS)
+        rule_broken(RULE_SPINS, "a sender looked %u times for receipts in a second, and was never answered", looks);
     if (calls <= CALLS)
         return;
     rule_broken(RULE_SPINS, "%lu calls of SQL in a second", calls);

@@ -10,7 +10,8 @@
 #include <string.h>
 
 enum {
-    RECONNECT = 200, /* milliseconds between tries */
+    RECONNECT = 200, /* milliseconds between tries, */
+    AWAY = 10000,    /* and between two lines that say why there is no connection */
     SILENT = 2000,   /* milliseconds after which a server that doesn't answer or read is left */
     FLUSHED = 500,   /* milliseconds that what was published has to leave at the end */
     STEP = 500,      /* milliseconds by which the wall clock may be set back, and nothing is done */
@@ -30,9 +31,23 @@ static int is_away(struct carrier *base)
     return natsConnection_Status(((struct nats_carrier *)base)->connection) != NATS_CONN_STATUS_CONNECTED;
 }
 
+/* Says each ten seconds why there is no connection, such as that a certificate has expired. */
+static void report_away(struct nats_carrier *c)
+{
+    const char *detail = NULL;
+    natsStatus status = natsConnection_GetLastError(c->connection, &detail);
+    if (!is_away(&c->base) || status == NATS_OK || milliseconds() - c->told_away < AWAY)
+        return;
+    c->told_away = milliseconds();
+    log_fact(LEVEL_WARNING, "carrier_away", field_text("fault", natsStatus_GetText(status)),
+             field_text("detail", detail != NULL ? detail : ""),
+             field_text("text", "there is no connection now: another one is tried all the time"));
+}
+
 static int is_closed(struct carrier *base)
 {
     struct nats_carrier *c = (struct nats_carrier *)base;
+    report_away(c);
     if (!natsConnection_IsClosed(c->connection))
         return 0;
     log_fact(LEVEL_ERROR, "carrier_closed", field_text("text", "the connection has ended for good: were"
@@ -245,14 +260,29 @@ static int count_of(const char *where)
     return count;
 }
 
+static const char *what_to_do(natsStatus status)
+{
+    switch (status) {
+    case NATS_SSL_ERROR:
+    case NATS_SECURE_CONNECTION_REQUIRED:
+    case NATS_SECURE_CONNECTION_WANTED:
+        return "a server answers, and TLS fails: is its certificate one of --tls-ca, with the name of --tls-name, and"
+               " not expired? Does it ask for one, as --tls-cert?";
+    case NATS_CONNECTION_AUTH_FAILED:
+        return "a server answers, and doesn't know this user: look at --credentials";
+    default:
+        return "no server answers: start nats-server with JetStream there (carrier/cluster starts three), or name"
+               " another --carrier";
+    }
+}
+
 static void report_unopened(const char *where, natsStatus status)
 {
     int has_password = strchr(where, '@') != NULL;
+    const char *detail = nats_GetLastError(NULL); /* such as that a certificate has expired */
     log_fact(LEVEL_ERROR, "carrier_unopened", field_number("servers", (uint64_t)count_of(where)),
-             field_text("carrier", has_password ? "" : where),
-             field_text("fault", natsStatus_GetText(status)),
-             field_text("text", "no server answers: start nats-server with JetStream there"
-                                " (carrier/cluster starts three), or name another --carrier"));
+             field_text("carrier", has_password ? "" : where), field_text("fault", natsStatus_GetText(status)),
+             field_text("detail", has_password || detail == NULL ? "" : detail), field_text("text", what_to_do(status)));
 }
 
 struct carrier *nats_carrier_open(const struct carrier_options *options)

@@ -646,6 +646,12 @@ def openssl(place, *words):
                    stdout=subprocess.DEVNULL, stderr=subprocess.DEVNULL)
 
 
+def certify(place, name, days="2"):
+    """A certificate of the authority `ca`, for so many days."""
+    openssl(place, "x509", "-req", "-in", f"{name}.csr", "-CA", "ca.pem", "-CAkey", "ca.key", "-CAcreateserial", "-days",
+            days, "-extfile", f"{name}.ext", "-out", f"{name}.pem")
+
+
 def make_certificates(place):
     """Two authorities, `ca` and `other`; `node` and `client` have certificates of the first."""
     new = ("-newkey", "ec", "-pkeyopt", "ec_paramgen_curve:P-256", "-nodes")
@@ -656,8 +662,7 @@ def make_certificates(place):
         place.write(f"{place.folder}/{name}.ext", [f"subjectAltName=DNS:{name}.test\n"])
         openssl(place, "req", *new, "-keyout", f"{name}.key", "-out", f"{name}.csr", "-subj",
                 f"/CN={name}.test")
-        openssl(place, "x509", "-req", "-in", f"{name}.csr", "-CA", "ca.pem", "-CAkey", "ca.key",
-                "-CAcreateserial", "-days", "2", "-extfile", f"{name}.ext", "-out", f"{name}.pem")
+        certify(place, name)
 
 
 def start_secured(place):
@@ -679,6 +684,24 @@ def start_secured(place):
                        "tls-cert": f"{place.folder}/client.pem",
                        "tls-key": f"{place.folder}/client.key"}
     return given
+
+
+def expired(place):
+    """The node's certificate expires: both programs say so while they run and when they start, and not that no server
+    answers."""
+    given = start_secured(place)
+    place.put(texts("ann", 0, 1), given=given["sender"])
+    running = [place.start(name, **given[name]) for name in given]
+    place.await_delivered()
+    place.nats.kill(0)
+    certify(place, "node", "-1")
+    place.nats.start(0)
+    expires = "certificate has expired"
+    place.require(place.wait(lambda: all(expires in place.log(it) for it in running), 20), "nobody says so while it runs")
+    for name in given:
+        status, told = place.run(name, seconds=20, **given[name])
+        place.require(status == 1 and loglines.has(told, "carrier_unopened") and expires in told
+                      and "no server answers" not in told, f"{name}: status {status}: {told[-300:]}")
 
 
 def secured(place):
@@ -1557,6 +1580,7 @@ CASES = (
     Case(session_moved, "a session gets another shard", {"ann": 110, "tom": 5}, 15,
          (ANN, TOM_1), "0,1", nats=""),
     Case(gap, "150 frames are deleted before they are read", {}, 10, nats=""),
+    Case(expired, "the certificate of a node expires", {"ann": 1}, 20, (ANN,)),
     Case(secured, "a node with TLS and users, and who has other certificates or another password",
          {"ann": 200}, 20, (ANN,)),
     Case(passwords, "passwords in options, where something is wrong", {}, 60, (ANN,)),

@@ -133,6 +133,7 @@ PARTS = [
     Part("pytest carrier/tests/test_packages.py", 10, (PYTEST,), over=()),
     Part("pytest carrier/tests/test_effects.py", 10, (PYTEST, "rt", COMPILER, MAKE, SQLITE), LIBRARY.command, over=()),
     Part("pytest carrier/tests/test_put_get.py", 5, (PYTEST, "rt", COMPILER, MAKE, SQLITE), LIBRARY.command, over=()),
+    Part("pytest carrier/tests/test_upgrades.py", 5, (PYTEST, "rt", COMPILER, MAKE, SQLITE), LIBRARY.command, over=()),
     Part("pytest carrier/tests/test_left.py", 5, (PYTEST, "rt", COMPILER, CRYPTOGRAPHY, MAKE, SQLITE), LIBRARY.command, over=()),
     Part("pytest carrier/tests/test_simulation.py", 20, (PYTEST, "rt", COMPILER, MAKE, SQLITE), LIBRARY.command, over=()),
     Part("pytest carrier/tests/test_simulation_model.py", 10, (PYTEST, "rt", COMPILER, MAKE), LIBRARY.command, over=()),
