@@ -4,8 +4,7 @@
 mod common;
 
 use std::ffi::c_void;
-use std::hint::black_box;
-use std::ptr::null_mut;
+use std::ptr::{null_mut, read_volatile, write_volatile};
 
 use common::{expect, from, session, AES256, AT, DRAWN, KEY_256, SENDER};
 use krbrelay::{Demand, Error, Mode, Opener, Peer, Receiver, Sealer};
@@ -64,7 +63,11 @@ fn left_by<T>(done: fn() -> T) -> usize {
 /// Leaves the key below its caller.
 #[inline(never)]
 fn leave() -> u8 {
-    black_box([black_box(KEY_256); 8])[7][31]
+    let mut keys = [[0; 32]; 8];
+    for key in &mut keys {
+        unsafe { write_volatile(key, KEY_256) };
+    }
+    unsafe { read_volatile(&keys[7][31]) }
 }
 
 #[test]
