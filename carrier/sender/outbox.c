@@ -96,6 +96,8 @@ static const char *const sql[OUTBOX_STATEMENTS] = {
                   " SELECT ?2, ?1, ?5, 0, ?4, ?5"
                   " WHERE ?3 = ?6 OR EXISTS (SELECT 1 FROM session WHERE name = ?2)"
                   " ON CONFLICT (name) DO UPDATE SET next = ?1 WHERE next = ?3"),
+    /* The same where there is a row, as mostly: SQLite keeps no journal of this statement. */
+    [MOVE_NEXT] = "UPDATE session SET next = ?1 WHERE name = ?2 AND next = ?3",
     [SET_CARRIED] = ("UPDATE session SET carried = ?1, at = ?2, incarnation = ?3, shard = ?4,"
                      " done = ?6, history = ?7 WHERE name = ?5"),
     [SELECT_OWNER] = "SELECT turn FROM owner",
@@ -436,7 +438,14 @@ int outbox_insert(struct outbox *o)
 
 int outbox_set_next(struct outbox *o, const struct session *session, uint64_t from, uint64_t to)
 {
-    struct statement *set = &o->statements[SET_NEXT];
+    struct statement *move = &o->statements[MOVE_NEXT], *set = &o->statements[SET_NEXT];
+    bind_number(move, 1, (sqlite3_int64)to);
+    bind_text(move, 2, session->name);
+    bind_number(move, 3, (sqlite3_int64)from);
+    if (step_once(move) != 0)
+        return -1;
+    if (sqlite3_changes(o->db) == 1)
+        return 0;
     bind_number(set, 1, (sqlite3_int64)to);
     bind_text(set, 2, session->name);
     bind_number(set, 3, (sqlite3_int64)from);

@@ -64,7 +64,7 @@ SEAL_OK && outbox_insert(&s->outbox) == 0) {
     "after a fault of the outbox nothing is loaded again": [
         ("sender.c", "answer == SEAL_OK; /* the commit may have happened */", "0;")],
     "an outbox takes transactions of two senders": [
-        ("outbox.c", "turn ==", "turn >="), ("outbox.c", "next = ?3", "?3 IS NOT NULL")],
+        ("outbox.c", "turn ==", "turn >="), ("outbox.c", "AND next = ?3", "AND ?3 IS NOT NULL")],
     "an opening leaves before the session before is carried": [
         ("publish.c", "!tickets_have(s->tickets) || sender_is_after(s, it)", "!tickets_have(s->tickets)")],
     "a failed text is put aside at once": [("effects.c", "times >= chosen.tries;", "times > 0;")],
@@ -92,7 +92,7 @@ if (nanoseconds() > 30 * SECOND && nanoseconds() < 500 * SECOND) {
     "owed receipts are dropped where the carrier is away": [("shard_receipts.c", "for (i = 0; i < some.count &&", """\
 some.count = 0;
         for (i = 0; i < some.count &&""")],
-    "numbers aren't compared beside the owner": [("outbox.c", "next = ?3", "?3 IS NOT NULL")],
+    "numbers aren't compared beside the owner": [("outbox.c", "AND next = ?3", "AND ?3 IS NOT NULL")],
 }
 
 # Which profile, seed and rule finds each, also those of engine.h.
@@ -115,7 +115,7 @@ FOUND = {
     "what was told is forgotten where a key is tried again": ("forked+tickets+keys", 4, "UNTOLD"),
     "a failed text is put aside at once": ("refused_a_while+aside", 2, "ASIDE_EARLY"),
     "a failed text is never put aside": ("refused+aside", 1, "NOT_ASIDE"),
-    "a session is forgotten before the next one has begun": ("tickets+killed+carrier", 4, "STANDS"),
+    "a session is forgotten before the next one has begun": ("tickets+killed+carrier", 14, "STANDS"),
     "a receiver idles for some minutes": ("lost", 1, "LATE"),
     "a sender has no round each second": ("later", 1, "UNHEALTHY"),
     "frames that are done stay": ("calm", 1, "KEPT"),
@@ -126,8 +126,8 @@ FOUND = {
     "last in, first out": ("many+carrier", 1, "UNFAIR"),
     "a list that was cut off is waited for": ("cut", 5, "STANDS"),
     "an opening is taken on any history": ("forked+killed+tickets", 1, "OVERTAKEN"),
-    "an opening is taken before the close before it": ("cut+killed+slow+tickets", 7, "OVERTAKEN"),
-    "another session of a turn that was had begins": ("cut+killed+slow+tickets", 17, "OVERTAKEN"),
+    "an opening is taken before the close before it": ("cut+killed+slow+tickets", 1, "OVERTAKEN"),
+    "another session of a turn that was had begins": ("cut+killed+slow+tickets", 3, "OVERTAKEN"),
     "the window stays after a silence": ("silent+bursts", 2, "FLOOD"),
     "a refused frame isn't held": ("skewed", 3, "UNTRUE"),
     "the pause of asks doesn't grow": ("skewed", 1, "FLOOD"),
