@@ -1,11 +1,8 @@
 """Tests what the reference is made of: how sources are read, what their words stand for, and how a
 page is written. The sources are written out here, and no program runs."""
-import html.parser
-import os
 
 from lib import scripts
-from lib.build import building
-from lib.reference import claims, pages, pages_html, pages_markdown, promises, sources
+from lib.reference import claims, pages, pages_markdown, promises, sources
 from lib.reference.sources import Ref
 
 RUST = '''//! What the crate is for.
@@ -236,27 +233,6 @@ def test_reached():
 
 # ---- pages
 
-class Reader(html.parser.HTMLParser):
-    """Whether each element that begins also ends, and which anchors and links there are."""
-
-    def __init__(self, text):
-        super().__init__()
-        self.open, self.anchors, self.links, self.right = [], set(), [], True
-        self.feed(text)
-
-    def handle_starttag(self, tag, attrs):
-        given = dict(attrs)
-        self.anchors.add(given.get("id"))
-        self.links.append(given.get("href", ""))
-        if tag in ("form", "script"):
-            self.links.append(given.get("action") or given.get("src"))
-        if tag not in ("meta", "link", "br", "input"):
-            self.open.append(tag)
-
-    def handle_endtag(self, tag):
-        self.right = self.right and bool(self.open) and self.open.pop() == tag
-
-
 def test_written():
     links = {"Keeps": pages.Target("low", "specs.Rule.Keeps")}
     page = pages.Page("low", "low", [
@@ -275,9 +251,6 @@ def test_written():
             and markdown.cited({"A": kind, "B": kind}) == "[`A`](../../crates/low/specs/Rule.antt)"), \
         "a place is cited once"
     assert markdown.address(pages.Target(pages.PROMISES, "low")) == "promises.md#low", "a page that is committed"
-    read = Reader(pages_html.written(page, [page]))
-    assert (read.right and not read.open and {"ab", "f.kept"} <= read.anchors
-            and "low.html#specs.Rule.Keeps" in read.links), "HTML"
 
 
 def test_whole():
@@ -308,29 +281,6 @@ def test_whole():
     modules = {row[0][0].text for block in every[1].blocks if isinstance(block, pages.Table) for row in block.rows}
     assert ({"krb_peers: Claims", "krb_peers: Attempt", "krb_aes: Cipher"} <= modules
             and "krb_peers: Planned" not in modules), "what the headline reaches"
-    made = pages_html.files_of(every)
-    files = {name: Reader(text) for name, text in made.items() if name.endswith(".html")}
-    assert all(it.right and not it.open for it in files.values()), "whole HTML"
-    of_index = set(files[pages_html.NAMES].links)
-    assert (len(of_index) > 2000
-            and all(
-        f"{pages_html.file_of(page.name)}#{block.anchor}" in of_index for page in every
-        for block in page.blocks if isinstance(block, pages.Heading) and block.is_code
-        and block.anchor or isinstance(block, pages.ClauseBlock) and block.anchor)), "all names are in the index"
-    assert (all(
-        it.links.count(pages_html.NAMES) == (1 if name == pages_html.NAMES else 2)
-        for name, it in files.items())), "each page has the search and the index"
-    assert not any("//" in it for page in files.values() for it in page.links if it), "nothing from elsewhere"
-    assert all(is_there(link, name, files) for name, it in files.items() for link in it.links), "no dead link"
-
-
-def is_there(link, name, files):
-    file, _, anchor = link.partition("#")
-    if file.startswith("../../"):
-        return os.path.exists(os.path.join(building.TOP, file[len("../../"):]))
-    if file in (pages_html.STYLE, pages_html.SCRIPT) or not link:
-        return True
-    return (file or name) in files and (not anchor or anchor in files[file or name].anchors)
 
 
 def targets(block):

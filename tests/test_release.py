@@ -33,7 +33,7 @@ DEBS = [f"debian/{name}_{VERSION}-1_{machine}.deb" for name, machine in (
     ("krbrelay-preload", "amd64"), ("python3-krbrelay", "all"))]
 PLAIN = ("README.md", f"{NAME}-vectors.json.gz", f"{NAME}-vectors.schema.json", f"{NAME}-vectors.README.md",
          *(f"debian/krbrelay_{VERSION}-1{end}" for end in (".dsc", ".debian.tar.xz", "_amd64.buildinfo")))
-OTHERS = (f"python/{NAME}.tar.gz", f"{NAME}-reference.tar.gz")
+OTHERS = (f"python/{NAME}.tar.gz",)
 FORMS = (f"{NAME}.intoto.json", f"{NAME}.spdx.json")
 NOTICES = {f"{NAME}.dist-info/licences/sha1": b"its licence"}
 MOST = 10       # lines of faults that a test shows

@@ -1,8 +1,8 @@
 """What is on each page of the reference: headings, prose, source text with links, and tables.
 
-`pages_of` makes the pages of a project. pages_markdown.py and pages_html.py write them.
-A page is a list of blocks, and a block's words are a list of inline parts, so that neither renderer
-knows anything of crates.
+`pages_of` makes the pages of a project. pages_markdown.py writes those that are committed; those of the crates say
+which anchors and clauses there are. A page is a list of blocks, and a block's words are a list of inline parts, so that
+the writer knows nothing of crates.
 """
 from __future__ import annotations
 
@@ -485,9 +485,8 @@ class Writer:
             Heading(1, "Reference", ""),
             Paragraph(self.inlines("krb_base", "Each public type and function of the crates, with"
                                    " its contract, and each definition that a contract cites."
-                                   " `tools/reference --html` makes a page of each crate for a browser; here a name leads to"
-                                   " its source. The"
-                                   " prover has checked each function against its contract.")),
+                                   " A name leads to its source. The prover has checked each function against its"
+                                   " contract.")),
             Paragraph([Inline("Start with "),
                        Inline("what the headline rests on", False, Target(HEADLINE)),
                        Inline(": the contract of "), *code(LAW.word, Target(LAW.crate, LAW.word)),

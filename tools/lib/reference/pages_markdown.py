@@ -1,5 +1,5 @@
-"""Writes pages of the reference as Markdown that a forge shows: those that are committed. The pages
-of the crates are for a browser (pages_html.py), so a link to one of them leads to the source here.
+"""Writes pages of the reference as Markdown that a forge shows: those that are committed. A link to what a crate has
+leads to its source.
 
 A forge doesn't link inside of source text, so the words of a text that link stand on a line after
 it. Lines are not wrapped: each paragraph is one.

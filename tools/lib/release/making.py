@@ -8,7 +8,6 @@ import tempfile
 
 from lib import bindings, scripts
 from lib.build import building
-from lib.reference import pages_html, promises, sources
 
 README = os.path.join(building.TOP, "packaging", "release.md")
 # The library of a wheel is installed here, below a folder of its own.
@@ -81,25 +80,12 @@ def make_packages(tarball, folder):
                 shutil.copyfile(os.path.join(room, name), os.path.join(folder, name))
 
 
-def make_reference(path):
-    """The HTML reference, packed."""
-    files = pages_html.files_of(promises.all_pages(sources.read_project()))
-    with tempfile.TemporaryDirectory() as room:
-        place = os.path.join(room, os.path.basename(path).removesuffix(".tar.gz"))
-        os.makedirs(place)
-        for name, text in files.items():
-            with open(os.path.join(place, name), "w", encoding="utf-8") as file:
-                file.write(text)
-        bindings.pack(place, path)
-
-
 def make(folder):
     """Makes all artefacts in a new folder."""
     dist = scripts.load("c/dist")
     os.makedirs(folder)
     tarball = dist.write(folder)
     dist.write_vectors(folder)
-    make_reference(os.path.join(folder, f"{dist.name()}-reference.tar.gz"))
     for place, maker in (("python", make_python), ("debian", make_packages)):
         os.makedirs(os.path.join(folder, place))
         maker(tarball, os.path.join(folder, place))

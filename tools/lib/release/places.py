@@ -33,7 +33,7 @@ def patterns(version):
     v = re.escape(version)
     base, deb = f"krbrelay-{v}", rf"{v}-1"
     top = [r"README\.md", SUMS, *(base + it for it in (
-        r"\.tar\.gz", r"\.proof\.json", r"\.intoto\.json", r"\.spdx\.json", r"-reference\.tar\.gz", r"-vectors\.json\.gz",
+        r"\.tar\.gz", r"\.proof\.json", r"\.intoto\.json", r"\.spdx\.json", r"-vectors\.json\.gz",
         r"-vectors\.schema\.json", r"-vectors\.README\.md"))]
     names = "krbrelay", "krbrelay-carrier", "krbrelay-preload", "libkrbrelay1", "libkrbrelay-dev"
     debian = [*(rf"{it}_{deb}_amd64\.deb" for it in names), rf"python3-krbrelay_{deb}_all\.deb", rf"krbrelay_{deb}\.dsc",
