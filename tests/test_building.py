@@ -23,9 +23,9 @@ GB = 1 << 30
 LAST_LINE = "some 500 times slower than the proved one: tools/krbrelay --prove makes that one."
 # The commands that test or time the program, which all want a proved one.
 NEED_PROVED = ("tests/redelivery", "tests/fuzz 8", "tests/residue --program",
-               "tests/sweep program", "kerberos/interop", "bench 1", "picture --check")
+               "tests/sweep program", "kerberos/interop", "bench 1")
 # Those that take the other one by a word, and how they say it.
-QUICK_FORMS = ("tests/redelivery --quick", "tests/fuzz --quick 8", "picture --quick")
+QUICK_FORMS = ("tests/redelivery --quick", "tests/fuzz --quick 8")
 WITHOUT = "over a program that was built without its proofs"
 TAKE_A_NAME = ("tests/residue --program", "tests/job_costs --check")
 

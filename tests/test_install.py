@@ -159,7 +159,7 @@ def test_what_is_installed_is_what_is_removed(krbrelay, tmp_path):
         os.chmod(os.path.join(folder, made), 0o644 if made.endswith("own") else 0o755)
     before = tree(folder)
     files = tool.install(folder, krbrelay, library_in(tmp_path / "library"))
-    assert len(files) == len(tool.FILES) + 5 and all(os.path.exists(os.path.join(folder, it)) for it in files)
+    assert len(files) == len(tool.FILES) + 6 and all(os.path.exists(os.path.join(folder, it)) for it in files)
     assert os.readlink(os.path.join(folder, "lib", "libkrbrelay.so")) == "libkrbrelay.so.1"
     whole = tree(folder)
     assert not list(closed(folder))

@@ -142,6 +142,12 @@ def text(picture):
     return picture.draw(picture.Job("relay.toml", job, relayed.follow(job, LOG)))
 
 
+def test_the_picture_of_the_documents(text):
+    """`tools/picture examples/relay.toml > docs/relay.svg` makes it, where the program prints what docs/USE.md says."""
+    assert building.text_of("docs/relay.svg") == text
+    assert all(line in building.text_of("docs/USE.md") for line in LOG.splitlines())
+
+
 def test_drawn(text):
     assert is_tidy(text) and kinds_are_known(text), "the example is tidy"
     words = [it.text for it in tree.fromstring(text).iter(SVG + "text")]

@@ -76,6 +76,7 @@ PLACES = [
     ("docs/PYTHON.md", r"as \((\d+, \d+, \d+)\)", "listed"),
     ("docs/krbrelay.1", r'^\.TH KRBRELAY 1 \S+ "krbrelay (.*?)"', "whole"),
     ("docs/krbrelay-check-job.1", r'^\.TH KRBRELAY\S+ 1 \S+ "krbrelay (.*?)"', "whole"),
+    ("docs/krbrelay-picture.1", r'^\.TH KRBRELAY\S+ 1 \S+ "krbrelay (.*?)"', "whole"),
     ("CONTRIBUTING.md", r"tag it: `krbrelay-(\S+)`", "whole"),
 ]
 OTHER_VERSION = "7.8.9"         # no part of which is one of a version here

@@ -13,10 +13,6 @@ from lib import toml_reader
 from lib.build import building
 from lib.picture import relayed
 
-# What tools/check_job needs where it is installed as krbrelay-check-job.
-INSTALLED = ("tools/check_job", "tables/job_keys.toml", *(f"tools/lib/{it}.py" for it in (
-    "__init__", "job_check", "log_lines", "options", "toml_reader", "build/__init__", "build/building", "picture/__init__",
-    "picture/relayed")))
 # tables/limits.toml: limits, by tools/tables
 INPUT_LIMIT = 16_777_216
 TEXTS_LIMIT = 1_000

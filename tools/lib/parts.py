@@ -143,7 +143,6 @@ PARTS = [
     Part("pytest tests/test_parts.py", 10, (PYTEST, COMPILER, CRYPTOGRAPHY, MAKE, SQLITE), over=()),
     Part("pytest tests/test_picture.py", 10, (PYTEST,), over=()),
     Part("tools/figure --check", 10, over=()),
-    Part("tools/picture --check", 10, (PROGRAM,)),
     Part("pytest tests/test_program.py", 10, (PROGRAM, COMPILER, PYTEST)),
     Part("pytest tests/test_show.py", 10, (PROGRAM, COMPILER, CRYPTOGRAPHY, PYTEST), LIBRARY.command),
     Part("pytest tests/test_install.py", 10, (PROGRAM, PYTEST)),
@@ -205,7 +204,6 @@ QUICK = [
     over_unproved("tests/redelivery --quick", 4, CRYPTOGRAPHY),
     *(over_unproved(f"pytest --quick --share {it}/{SHARES} tests/test_program.py", 6, COMPILER, PYTEST)
       for it in range(1, SHARES + 1)),
-    over_unproved("tools/picture --quick", 1),
     over_unproved("pytest --quick tests/test_install.py", 1, PYTEST),
 ]
 
