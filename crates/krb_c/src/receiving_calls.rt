@@ -2,9 +2,10 @@
 //! function with an answer answers 0, or 912 where the numbers are no end or an argument doesn't fit: then
 //! all stays as it was.
 
-ghost use Rattle.std.specs.Prelude.{◌≡◌, ◌↔◌};
+ghost use Rattle.std.specs.Prelude.{◌≡◌, ◌↔◌, None};
 ghost use Rattle.krb_carrier_structs.specs.Calls.{AnswersTold};
 ghost use Rattle.krb_carrier_structs.specs.Numbers.{outcome_number};
+ghost use Rattle.krb_carrier_structs.specs.Receipt.{told_receipt};
 ghost use Rattle.krb_carrier_structs.specs.Receiving.{CanTakeFrame, IsReceiving, TellsReceiving, told_receiving, told_row, told_seen};
 ghost use Rattle.krb_engine.specs.Receiving.{dropped, has_row, outcome as taken_for, stored, took};
 
@@ -84,7 +85,7 @@ pub extern "C" fn krbrelay_receiving_dropped(receiving: &mut KrbReceiving) -> u3
     0
 }
 
-/// Tells the receipt that leaves now, or none.
+/// Tells the receipt that leaves now, or none, which asks for 0.
 #[unsafe(no_mangle)]
 pub extern "C" fn krbrelay_receiving_receipt(
     receiving: &mut KrbReceiving,
@@ -94,6 +95,7 @@ pub extern "C" fn krbrelay_receiving_receipt(
     ensures ok { result ≡ 0 ↔ IsReceiving receiving.old }
     ensures argument { ¬ (result ≡ 0) → result ≡ 912 }
     ensures answers { result ≡ 0 → AnswersTold receiving.old now receipt.new receiving.new }
+    ensures none { result ≡ 0 → told_receipt receipt.new ≡ None → receipt.new.asks ≡ 0 }
     ensures kept { ¬ (result ≡ 0) → receiving.new ≡ receiving.old }
     ensures untold { ¬ (result ≡ 0) → receipt.new ≡ receipt.old }
 {

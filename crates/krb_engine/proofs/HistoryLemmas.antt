@@ -18,7 +18,8 @@ use Rattle.krb_engine.specs.declared.sending.Command.{Command}
 use Rattle.krb_engine.specs.declared.sending.Command.TheVariants as commands
 use Rattle.krb_engine.specs.declared.sending.Heard.{Heard}
 use Rattle.krb_engine.specs.SendingState.{SendingState}
-use Rattle.krb_engine.specs.Sending.{loaded, sealed, confirmed, with_list, listed, reconnected, settled_progress, settled, found, is_asked, asked, heeded, is_lost, lost, looked, published, probed}
+use Rattle.krb_engine.proofs.NotedLemmas.{of_noted}
+use Rattle.krb_engine.specs.Sending.{loaded, sealed, confirmed, with_list, listed, reconnected, settled_progress, settled, found, is_asked, asked, heeded, held, noted, is_lost, lost, looked, published, probed}
 use Rattle.krb_engine.specs.Calls.{Hears, Serves}
 use Rattle.krb_engine.specs.Laws.{Call, Sealed, Confirmed, Received, Listed, Reconnected, Served, Answers, LeadsSending, HasHappened, IsTrueCall, EachRunIsAHistory, EachListBegins, LoadsGoOn, CarriedStandInTurn, DeliversByTheShard}
 
@@ -101,9 +102,9 @@ module _ (sealer : SealerState) (records : List Record) (session : ℕ) (shard :
   has_heeded : (old : SendingState) (number : ℕ) (it : Asks) (now : ℕ) → Has old → Has (heeded old number it now)
   has_heeded old number it now has = by_test (is_asked old number it now)
     where
-      by_test : (b : Bool) → Has (if b then asked old it now else old)
+      by_test : (b : Bool) → Has (if b then asked old it now else noted old number it)
       by_test true = begun (asked old it now) old.progress.next old.done 0 refl refl (omega arith)
-      by_test false = has
+      by_test false = of_noted Has old number it has (same old (held old) refl (omega arith) has)
 
   has_looked : (old : SendingState) (now : ℕ) → Has old → Has (looked old now)
   has_looked old now has = by_test (is_lost old now)

@@ -1,3 +1,4 @@
+pub mod NotedLemmas
 pub mod HistoryLemmas
 pub mod ReceiptLemmas
 pub mod ServiceLemmas

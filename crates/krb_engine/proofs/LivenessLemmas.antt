@@ -14,12 +14,14 @@ use Rattle.krb_engine.specs.declared.sending.Asks.TheVariants as asks
 use Rattle.krb_engine.specs.declared.sending.Command.{Command}
 use Rattle.krb_engine.specs.declared.sending.Command.TheVariants.{Publish, Probe, Wake, Idle}
 use Rattle.krb_engine.specs.declared.sending.Heard.{Heard}
-use Rattle.krb_engine.specs.Limits.{window_most, service_most, room_pause}
+use Rattle.krb_engine.specs.Limits.{again_first, probe_first, window_most, service_most, room_pause}
 use Rattle.krb_engine.specs.SendingState.{SendingState, IsEnd}
-use Rattle.krb_engine.specs.Sending.{is_over, never, end_of, may_ask, is_lost, lost, looked, is_settled, batch, is_free, published, is_unanswered, probed, has_opening, wake_time, heard_of, settled, sealing_room, found, is_asked, asked, heeded, with_list, confirmed, ask_end, held_end, again_end, probe_end, room_end}
+use Rattle.krb_engine.proofs.NotedLemmas.{of_noted}
+use Rattle.krb_engine.specs.declared.sending.Stands.TheVariants as standings
+use Rattle.krb_engine.specs.Sending.{is_over, never, end_of, may_ask, is_lost, lost, looked, is_settled, batch, is_free, published, is_unanswered, probed, has_opening, wake_time, heard_of, settled, sealing_room, found, is_asked, is_refused, asked, heeded, held, noted, stands, stands_by, with_list, confirmed, ask_end, held_end, again_end, probe_end, room_end}
 use Rattle.krb_engine.specs.Calls.{Hears, Serves, Rests}
 use Rattle.krb_engine.specs.Laws.{Call, Sealed, Confirmed, Received, Listed, Reconnected, Served, Answers}
-use Rattle.krb_engine.specs.Liveness.{taken_to, Round, receipt_of, IsGood, GoesOn, RoundsDeliver, GoodRoundsHappen, AllIsDone, WakesAreToCome, HoldsNoRoom, StoppedHoldNoRoom, IdleIsDone, AsksAreHeeded, MoreMayBeSealed}
+use Rattle.krb_engine.specs.Liveness.{taken_to, Round, receipt_of, IsGood, GoesOn, RoundsDeliver, GoodRoundsHappen, AllIsDone, WakesAreToCome, HoldsNoRoom, StoppedHoldNoRoom, IdleIsDone, AsksAreHeeded, RefusalsAreTold, MoreMayBeSealed}
 
 -- ---- receipts
 
@@ -45,9 +47,11 @@ heeded_goes : (old : SendingState) (number : ℕ) (it : Asks) (now : ℕ) → Is
     → GoesOn old (heeded old number it now) × ((heeded old number it now).done ≡ old.done)
 heeded_goes old number it now is none = by_test (is_asked old number it now)
   where
-    by_test : (b : Bool) → GoesOn old (if b then asked old it now else old) × ((if b then asked old it now else old).done ≡ old.done)
+    by_test : (b : Bool) → GoesOn old (if b then asked old it now else noted old number it) × ((if b then asked old it now else noted old number it).done ≡ old.done)
     by_test true = (record { next = refl; ended = none; end = record { done = omega arith; carried = omega arith; sent = omega (arith, is.done, is.carried, is.sent); window = omega arith } }, refl)
-    by_test false = (record { next = refl; ended = none; end = is }, refl)
+    by_test false = of_noted (λ s. GoesOn old s × (s.done ≡ old.done)) old number it
+        (record { next = refl; ended = none; end = is }, refl)
+        (record { next = refl; ended = none; end = record { done = is.done; carried = is.carried; sent = is.sent; window = is.window } }, refl)
 
 hears_goes : (old : SendingState) (receipt : Receipt) (it : Asks) (now : ℕ) (heard : Heard) (new : SendingState) → IsEnd old → old.ended ≡ None → receipt.number ≤ old.progress.next
     → Hears old receipt.history receipt it now heard new
@@ -406,9 +410,9 @@ found_holds old number now Forked none is = refl
 heeded_holds : (old : SendingState) (number : ℕ) (it : Asks) (now : ℕ) → HoldsNoRoom old → HoldsNoRoom (heeded old number it now)
 heeded_holds old number it now holds = by_test (is_asked old number it now)
   where
-    by_test : (b : Bool) → HoldsNoRoom (if b then asked old it now else old)
+    by_test : (b : Bool) → HoldsNoRoom (if b then asked old it now else noted old number it)
     by_test true = λ is. refl
-    by_test false = holds
+    by_test false = of_noted HoldsNoRoom old number it holds holds
 
 looked_holds : (old : SendingState) (now : ℕ) → HoldsNoRoom old → HoldsNoRoom (looked old now)
 looked_holds old now holds = by_test (is_lost old now)
@@ -490,12 +494,36 @@ asks_are_heeded old own receipt asks.Refused now heard new none same due some ma
     let test : is_asked old receipt.number asks.Refused now ≡ true =
     asked_is receipt.number old.done old.progress.carried (is_none old.ended) (may_ask old.ask now) same due (ap (λ e. is_none e) none) may in
     let is : new ≡ asked old asks.Refused now =
-    heard_own old own receipt asks.Refused now heard new none (omega (arith, same)) hears ∙ ap (λ t. if t then asked old asks.Refused now else old) test in (
+    heard_own old own receipt asks.Refused now heard new none (omega (arith, same)) hears ∙ ap (λ t. if t then asked old asks.Refused now else noted old receipt.number asks.Refused) test in (
       ap (λ (s : SendingState). s.progress.sent) is,
       ap (λ (s : SendingState). s.progress.carried) is,
       ap (λ (s : SendingState). s.window) is,
       λ refused. ap (λ (s : SendingState). s.is_held) is,
     )
+
+refused_is : (number done next : ℕ) (c : Bool) → number ≡ done → done < next → c ≡ true → (true && (number == done) && nat_lt done next && c) ≡ true
+refused_is number done next c same lt is_c =
+    ap (λ t. true && t && nat_lt done next && c) (eq-eqb number done same)
+    ∙ (ap (λ t. true && true && t && c) (lt-ltb done next lt)
+    ∙ ap (λ t. true && true && true && t) is_c)
+
+pub refusals_are_told : RefusalsAreTold
+refusals_are_told old own receipt now heard new none same more hears =
+    let is : new ≡ heeded old receipt.number asks.Refused now = heard_own old own receipt asks.Refused now heard new none (omega (arith, same)) hears in
+    ap stands is ∙ by_asked (is_asked old receipt.number asks.Refused now)
+  where
+    stands_held : (s : SendingState) → s.ended ≡ None → s.is_held ≡ true → stands s ≡ Some standings.Refused
+    stands_held s alive kept =
+        let unanswered = nat_lt s.done s.progress.carried && nat_le (4 * probe_first) s.probe.length in
+        let unconfirmed = nat_lt s.progress.carried s.progress.sent && nat_lt again_first s.again.length in
+        ap (λ e. stands_by e s.is_held unanswered unconfirmed) alive ∙ ap (λ h. stands_by None h unanswered unconfirmed) kept
+
+    by_asked : (b : Bool) → stands (if b then asked old asks.Refused now else noted old receipt.number asks.Refused) ≡ Some standings.Refused
+    by_asked true = stands_held (asked old asks.Refused now) none refl
+    by_asked false =
+        let test : is_refused old receipt.number asks.Refused ≡ true =
+        refused_is receipt.number old.done old.progress.next (is_none old.ended) same more (ap (λ e. is_none e) none) in
+        ap (λ t. stands (if t then held old else old)) test ∙ stands_held (held old) none refl
 
 pub more_may_be_sealed : MoreMayBeSealed
 more_may_be_sealed state none few =

@@ -26,7 +26,8 @@ use Rattle.krb_carry.specs.HistoryLaws.{Collision}
 use Rattle.krb_engine.specs.declared.sending.Asks.{Asks}
 use Rattle.krb_engine.specs.declared.sending.Heard.{Heard}
 use Rattle.krb_engine.specs.SendingState.{SendingState}
-use Rattle.krb_engine.specs.Sending.{sealed, settled_progress, settled, found, is_asked, asked, heeded}
+use Rattle.krb_engine.specs.Sending.{sealed, settled_progress, settled, found, is_asked, asked, heeded, noted}
+use Rattle.krb_engine.proofs.NotedLemmas.{of_noted}
 use Rattle.krb_engine.specs.Calls.{Hears}
 use Rattle.krb_engine.specs.Laws.{IsEndOf, copy_of, HearsAsACopy, DeletedTookEffect, SealsOneAfterAnother, DeliversByReceipts}
 
@@ -56,23 +57,23 @@ delivers_by_receipts sealer acts outbox each leads state attempts stored tries l
 heeded_done : (old : SendingState) (number : ℕ) (it : Asks) (now : ℕ) → (heeded old number it now).done ≡ old.done
 heeded_done old number it now = by_test (is_asked old number it now)
   where
-    by_test : (b : Bool) → (if b then asked old it now else old).done ≡ old.done
+    by_test : (b : Bool) → (if b then asked old it now else noted old number it).done ≡ old.done
     by_test true = refl
-    by_test false = refl
+    by_test false = of_noted (λ s. s.done ≡ old.done) old number it refl refl
 
 heeded_next : (old : SendingState) (number : ℕ) (it : Asks) (now : ℕ) → (heeded old number it now).progress.next ≡ old.progress.next
 heeded_next old number it now = by_test (is_asked old number it now)
   where
-    by_test : (b : Bool) → (if b then asked old it now else old).progress.next ≡ old.progress.next
+    by_test : (b : Bool) → (if b then asked old it now else noted old number it).progress.next ≡ old.progress.next
     by_test true = refl
-    by_test false = refl
+    by_test false = of_noted (λ s. s.progress.next ≡ old.progress.next) old number it refl refl
 
 heeded_ended : (old : SendingState) (number : ℕ) (it : Asks) (now : ℕ) → is_some (heeded old number it now).ended ≡ is_some old.ended
 heeded_ended old number it now = by_test (is_asked old number it now)
   where
-    by_test : (b : Bool) → is_some (if b then asked old it now else old).ended ≡ is_some old.ended
+    by_test : (b : Bool) → is_some (if b then asked old it now else noted old number it).ended ≡ is_some old.ended
     by_test true = refl
-    by_test false = refl
+    by_test false = of_noted (λ s. is_some s.ended ≡ is_some old.ended) old number it refl refl
 
 settled_next : (progress : ProgressState) (number : ℕ) → (settled_progress progress number).next ≡ progress.next
 settled_next progress number = by_test (nat_lt progress.carried number)

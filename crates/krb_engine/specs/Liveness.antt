@@ -1,5 +1,5 @@
 -- A session's end gets on where the carrier is good for a moment, whatever happened before.
-use Rattle.std.specs.Prelude.{◌≡◌, ◌≢◌, ◌⊎◌, ℕ, ◌+◌, ◌<◌, ◌≤◌, ◌==◌, nat_lt, nat_le, ◌&&◌, if◌then◌else◌, true, List, [], ◌∷◌, length, None, is_some}
+use Rattle.std.specs.Prelude.{◌≡◌, ◌≢◌, ◌⊎◌, ℕ, ◌+◌, ◌<◌, ◌≤◌, ◌==◌, nat_lt, nat_le, ◌&&◌, if◌then◌else◌, true, List, [], ◌∷◌, length, None, Some, is_some}
 use Rattle.krb_carry.specs.declared.receipt.Receipt.{Receipt}
 use Rattle.krb_engine.specs.declared.sending.Asks.{Asks}
 use Rattle.krb_engine.specs.declared.sending.Asks.TheVariants as asks
@@ -8,7 +8,8 @@ use Rattle.krb_engine.specs.declared.sending.Command.TheVariants.{Publish, Probe
 use Rattle.krb_engine.specs.declared.sending.Heard.{Heard}
 use Rattle.krb_engine.specs.Limits.{window_most}
 use Rattle.krb_engine.specs.SendingState.{SendingState, IsEnd}
-use Rattle.krb_engine.specs.Sending.{is_over, may_ask, looked, never, sealing_room}
+use Rattle.krb_engine.specs.declared.sending.Stands.TheVariants.{Refused}
+use Rattle.krb_engine.specs.Sending.{is_over, may_ask, looked, never, sealing_room, stands}
 use Rattle.krb_engine.specs.Calls.{Hears, Serves}
 use Rattle.krb_engine.specs.Laws.{Call, LeadsSending}
 
@@ -118,6 +119,13 @@ AsksAreHeeded =
     → Hears old own receipt it now heard new
     → (new.progress.sent ≡ old.done) × (new.progress.carried ≡ old.done) × (new.window ≡ 1)
     × (it ≡ asks.Refused → new.is_held ≡ true)
+
+-- Where receivers refuse the first frame that isn't done, the session stands for that, heeded or not.
+abbrev pub RefusalsAreTold : Type 0
+RefusalsAreTold =
+    (old : SendingState) (own : List ℕ) (receipt : Receipt) (now : ℕ) (heard : Heard) (new : SendingState)
+    → old.ended ≡ None → receipt.number ≡ old.done → old.done < old.progress.next
+    → Hears old own receipt asks.Refused now heard new → stands new ≡ Some Refused
 
 -- Unless it is stopped, so many frames may wait to be carried: each that is carried makes room for one more.
 abbrev pub MoreMayBeSealed : Type 0

@@ -159,8 +159,20 @@ asked state it now = record (begins state) {
   is_held = is_refusal it;
 }
 
+-- It refuses the first frame that isn't done.
+abbrev pub is_refused : SendingState → ℕ → Asks → Bool
+is_refused state number it =
+    is_refusal it && (number == state.done) && nat_lt state.done state.progress.next && is_none state.ended
+
+-- Where such a receiver isn't heeded now, that is noted: nothing leaves until the pause is over.
+abbrev pub held : SendingState → SendingState
+held state = record state { is_held = true }
+
+abbrev pub noted : SendingState → ℕ → Asks → SendingState
+noted state number it = if is_refused state number it then held state else state
+
 abbrev pub heeded : SendingState → ℕ → Asks → ℕ → SendingState
-heeded state number it now = if is_asked state number it now then asked state it now else state
+heeded state number it now = if is_asked state number it now then asked state it now else noted state number it
 
 -- ---- what is to be done
 

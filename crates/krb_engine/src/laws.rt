@@ -2,7 +2,7 @@
 
 ghost use Rattle.krb_engine.specs.Laws.{CarriedStandInTurn, CopiesAreFew, DeletedTookEffect, DeliversByReceipts, DeliversByTheShard, EachListBegins, EachRunIsAHistory, EachServiceIsSmall, HearsAsACopy, LoadsGoOn, NothingStandsStill, ProbesAreRare, RepeatsAreRare, SealsOneAfterAnother};
 ghost use Rattle.krb_engine.specs.ReceivingLaws.{AcceptsInTurn, ClosesAreStored, GoesWithTheStore, ReceiptsAreOwed, ReceiptsAreTrue, ReceiptsLeave, RefusesByNumber};
-ghost use Rattle.krb_engine.specs.Liveness.{AllIsDone, AsksAreHeeded, GoodRoundsHappen, IdleIsDone, MoreMayBeSealed, RoundsDeliver, StoppedHoldNoRoom, WakesAreToCome};
+ghost use Rattle.krb_engine.specs.Liveness.{AllIsDone, AsksAreHeeded, GoodRoundsHappen, IdleIsDone, MoreMayBeSealed, RefusalsAreTold, RoundsDeliver, StoppedHoldNoRoom, WakesAreToCome};
 
 use krb_carry::{copies_laws, delivery_laws, progress_laws};
 
@@ -58,7 +58,8 @@ pub fn sending_laws()
 /// One that is stopped has nothing under way, whatever comes, so it takes no room of its shard (`stopped`).
 ///
 /// It is idle only if all is done or it is stopped (`idle`). A receiver that asks is heeded: the frame leaves
-/// again, alone (`heeds`). And more may be sealed, as long as few wait to be carried (`seals`).
+/// again, alone (`heeds`). Where receivers refuse the first frame that isn't done, the session stands for that, heeded
+/// or not (`told`). And more may be sealed, as long as few wait to be carried (`seals`).
 pub fn liveness_laws()
     ensures rounds { RoundsDeliver }
     ensures happen { GoodRoundsHappen }
@@ -67,6 +68,7 @@ pub fn liveness_laws()
     ensures stopped { StoppedHoldNoRoom }
     ensures idle { IdleIsDone }
     ensures heeds { AsksAreHeeded }
+    ensures told { RefusalsAreTold }
     ensures seals { MoreMayBeSealed }
 {}
 

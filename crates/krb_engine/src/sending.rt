@@ -3,7 +3,7 @@
 ghost use Rattle.std.specs.Prelude.{◌≡◌, ◌↔◌, ◌+◌, ◌-◌, ◌<◌, ◌≤◌, ◌^◌, IfSome, IsSome, IsTrue, if◌then◌else◌, ◌≢◌};
 ghost use Rattle.krb_carry.specs.Progress.{Counts};
 ghost use Rattle.krb_carry.specs.Receipt.{Finds};
-ghost use Rattle.krb_engine.specs.Sending.{ask_end, batch, begins, confirmed, found, heard_of, heeded, is_asked, is_free, is_settled, is_unanswered, listed, loaded, looked, may_ask, next_ask, probed, published, reconnected, recovery_room, sealed, sealing_room, settled, stands, stopped, wake_time, wider};
+ghost use Rattle.krb_engine.specs.Sending.{ask_end, batch, begins, confirmed, found, heard_of, heeded, is_asked, is_free, is_refused, is_settled, is_unanswered, listed, loaded, looked, may_ask, next_ask, probed, published, reconnected, recovery_room, sealed, sealing_room, settled, stands, stopped, wake_time, wider};
 ghost use Rattle.krb_engine.specs.Parts.{end_of_parts};
 ghost use Rattle.krb_engine.specs.SendingState.{IsEnd};
 ghost use Rattle.krb_engine.specs.Calls.{Hears, IsProbe, Serves};
@@ -327,11 +327,14 @@ impl Sending {
         self.is_answered = true;
     }
 
-    /// A receiver that demands this number asks for it again, or not.
+    /// A receiver that demands this number asks for it again, or not. A refusal is noted, also where it isn't heeded now.
     fn heed(&mut self, number: u64, asks: Asks, now: u64)
         ensures { self.new ≡ heeded self.old number asks now }
     {
         if !self.is_asked(number, asks, now) {
+            if self.is_refused(number, asks) {
+                self.is_held = true;
+            }
             return;
         }
         self.recovers = self.recovers.max(self.progress.carried());
@@ -350,6 +353,16 @@ impl Sending {
             && self.done < self.progress.carried()
             && self.ended.is_none()
             && may_ask(self.ask, now)
+    }
+
+    /// Whether it refuses the first frame that isn't done.
+    fn is_refused(&self, number: u64, asks: Asks) -> bool
+        ensures { result ≡ is_refused self.now number asks }
+    {
+        asks == Asks::Refused
+            && number == self.done
+            && self.done < self.progress.next()
+            && self.ended.is_none()
     }
 
     // ---- what is to be done

@@ -7,35 +7,17 @@ use Rattle.krb_peers.specs.declared.receiver.Receiving.{Receiving}
 use Rattle.krb_peers.specs.declared.sending.Sending.{Sending}
 use Rattle.krb_peers.specs.Ends.{Ends, ends_of, lanes_of}
 use Rattle.krb_peers.specs.LogState.{LogState}
-use Rattle.krb_peers.specs.Run.{Run, AreRuns}
+use Rattle.krb_peers.specs.Run.{Run}
 use Rattle.krb_peers.specs.Wire.{IsWire}
 use Rattle.krb_relay.specs.declared.cause.Cause.{Cause}
 use Rattle.krb_relay.specs.declared.cause.Cause.TheVariants.{Memory, Spawn, Lost, BadPlan, Wiped}
 use Rattle.krb_relay.specs.Relayed.{IsLeast, StopsRelay}
+use Rattle.krb_relay.proofs.RunLemmas.{ends_there, run_there}
 use Rattle.krb_commands.specs.declared.fault.Fault.{Fault}
 use Rattle.krb_commands.specs.declared.fault.Fault.TheVariants as fault
 use Rattle.krb_commands.specs.Fault.{bad_plan, IsOfPrinting}
 use Rattle.krb_program.specs.RelayFault.{of_relay, IsLiveCause, IsOfRelaying}
 use Rattle.krb_program.specs.Relayed.{HasBadPlanFirst}
-
--- ---- a lane and its run
-
-run_there : (lanes : List Ends) (runs : List Run) → AreRuns lanes runs → (lane : ℕ) (run : Run) → slice_get runs lane ≡ Some run → slice_get lanes lane ≡ Some run.ends
-run_there [] [] are lane run at = absurd (let e = at in cc)
-run_there [] (r ∷ runs) are lane run at = absurd are
-run_there (ends ∷ lanes) [] are lane run at = absurd are
-run_there (ends ∷ lanes) (r ∷ runs) are zero run at =
-    let e : r ≡ run = cc in
-    ap (λ x. Some x) (sym are.0 ∙ ap (λ (x : Run). x.ends) e)
-run_there (ends ∷ lanes) (r ∷ runs) are (suc lane) run at = run_there lanes runs are.2 lane run at
-
-ends_there : (lanes : List Ends) (runs : List Run) → AreRuns lanes runs → (lane : ℕ) (ends : Ends) → slice_get lanes lane ≡ Some ends → (run : Run) × (slice_get runs lane ≡ Some run) × (run.ends ≡ ends)
-ends_there [] runs are lane ends at = absurd (let e = at in cc)
-ends_there (first ∷ lanes) [] are lane ends at = absurd are
-ends_there (first ∷ lanes) (r ∷ runs) are zero ends at =
-    let e : first ≡ ends = cc in
-    (r, refl, are.0 ∙ e)
-ends_there (first ∷ lanes) (r ∷ runs) are (suc lane) ends at = ends_there lanes runs are.2 lane ends at
 
 -- ---- a plan that is named
 

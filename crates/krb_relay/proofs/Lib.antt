@@ -9,3 +9,4 @@ pub mod RelayedLemmas
 pub mod OpeningLemmas
 pub mod WaitingLemmas
 pub mod TogetherLemmas
+pub mod RunLemmas

@@ -8,3 +8,4 @@ pub mod Waiting
 pub mod Sealed
 pub mod Gathering
 pub mod Relayed
+pub mod Laws

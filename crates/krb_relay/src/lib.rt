@@ -19,6 +19,7 @@
 mod cause;
 mod codes;
 mod fault;
+mod laws;
 mod levels;
 mod logging;
 mod opening;
@@ -35,4 +36,5 @@ mod worker;
 pub use cause::Cause;
 pub use fault::Fault;
 pub use krb_peers::{Boxed, Gate, NoGate};
+pub use laws::relay_laws;
 pub use running::{Report, relay};

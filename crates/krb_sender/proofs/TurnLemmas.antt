@@ -13,7 +13,8 @@ use Rattle.krb_engine.specs.declared.sending.Command.TheVariants.{Publish, Probe
 use Rattle.krb_engine.specs.declared.sending.Heard.{Heard}
 use Rattle.krb_engine.specs.Limits.{under_way_most}
 use Rattle.krb_engine.specs.SendingState.{SendingState}
-use Rattle.krb_engine.specs.Sending.{asked, found, heeded, is_asked, is_lost, is_over as pause_over, is_unanswered, listed, looked, lost, probed, published, with_list}
+use Rattle.krb_engine.specs.Sending.{asked, found, heeded, is_asked, is_lost, is_over as pause_over, is_unanswered, listed, looked, lost, noted, probed, published, with_list}
+use Rattle.krb_engine.proofs.NotedLemmas.{of_noted}
 use Rattle.krb_engine.specs.Calls as calls
 use Rattle.krb_sender.specs.declared.session.Turn.{Turn}
 use Rattle.krb_sender.specs.declared.session.Turn.TheVariants.{Does, Held}
@@ -27,9 +28,9 @@ use Rattle.krb_sender.specs.Lane.{IsLane, IsPicked, look_time, more_of, turns_of
 heeded_paced : (e : SendingState) (number : ℕ) (it : Asks) (now : ℕ) → IsPaced e → IsPaced (heeded e number it now)
 heeded_paced e number it now paced = by_test (is_asked e number it now)
   where
-    by_test : (b : Bool) → IsPaced (if b then asked e it now else e)
+    by_test : (b : Bool) → IsPaced (if b then asked e it now else noted e number it)
     by_test true = paced
-    by_test false = paced
+    by_test false = of_noted IsPaced e number it paced paced
 
 found_paced : (e : SendingState) (number now : ℕ) (finding : Finding) → IsPaced e → IsPaced (found e number now finding)
 found_paced e number now findings.Repeat paced = paced
