@@ -157,6 +157,7 @@ static void hears_receipts(void)
     CHECK(is_command(&s, 256, 6100, publish(2, 1)));
     IS(krbrelay_sending_confirmed(&s, 2, 10, 6200, &told));
     CHECK(hears(&s, 2, own, KRBRELAY_ASKS_REFUSED, 6300) == KRBRELAY_HEARD_NOTHING && s.progress.carried == 3);
+    CHECK(state(&s).stands == KRBRELAY_STANDS_REFUSED);
     CHECK(hears(&s, 2, own, KRBRELAY_ASKS_REFUSED, 10100) == KRBRELAY_HEARD_NOTHING);
     CHECK(is_command(&s, 256, 10100, wake(18100)) && state(&s).stands == KRBRELAY_STANDS_REFUSED);
     CHECK(is_command(&s, 256, 18100, publish(2, 1)));

@@ -235,9 +235,10 @@ fn receipts_alone_settle(rt: HostRuntime) {
             Step::Receipt(2, OWN, Asks::Missing, 6_100, Heard::Nothing),
             Step::Serves(256, 6_100, publish(2, 1)),
             Step::Confirmed(2, 10, 6_200, true),
-            // a receiver that asks again too soon isn't heeded
+            // a receiver that asks again too soon isn't heeded, and its refusal is told
             Step::Receipt(2, OWN, Asks::Refused, 6_300, Heard::Nothing),
             Step::Carried(3),
+            Step::Stands(Some(Stands::Refused)),
             // it asks again later, since it refuses the frame, which then leaves after a pause
             Step::Receipt(2, OWN, Asks::Refused, 10_100, Heard::Nothing),
             Step::Serves(256, 10_100, wake(18_100)),
