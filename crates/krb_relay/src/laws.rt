@@ -7,7 +7,7 @@ ghost use Rattle.krb_relay.specs.Laws.{AllBelowTheNamed, BadPlanIsTrue, NothingO
 ///
 /// The plan of the named lane is bad (`plan`), or its sealer was wiped (`wiped`), and nothing was taken of it (`nothing`).
 /// Of each lane below it all was taken that its wire carries (`below`).
-pub fn relay_laws()
+pub fn stop_laws()
     ensures plan { BadPlanIsTrue }
     ensures wiped { WipedIsTrue }
     ensures nothing { NothingOfTheNamed }

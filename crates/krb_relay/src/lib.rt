@@ -36,5 +36,5 @@ mod worker;
 pub use cause::Cause;
 pub use fault::Fault;
 pub use krb_peers::{Boxed, Gate, NoGate};
-pub use laws::relay_laws;
+pub use laws::stop_laws;
 pub use running::{Report, relay};

@@ -1,5 +1,5 @@
 use Rattle.krb_relay.proofs.RunLemmas.{all_below, nothing_taken, plan_is_bad, sealer_was_wiped}
-use Rattle.krb_relay.proofs.laws.relay_laws.Goals as goal
+use Rattle.krb_relay.proofs.laws.stop_laws.Goals as goal
 
 pub returns : goal.returns
 returns c = record {
