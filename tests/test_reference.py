@@ -273,57 +273,14 @@ def test_whole():
             and stands("krb_record", "BatchError.Display.output", "crates/krb_record/src/batch.rt", "ghost output")
             and stands("krb_peers", "specs.Planned.IsPaired", "crates/krb_peers/specs/Planned.antt", "pub record IsPaired")
             and pages.source_place(project, pages.Target("krb_lane", "")) == "crates/krb_lane/src/lib.rt"), "where an item stands"
-    assert pages.lines_of(project, every[3:])["crates/krb_peers/specs/Planned.antt", "IsPaired"].isdigit()
+    lines, file = pages.lines_of(project, every[3:]), "crates/krb_peers/specs/Planned.antt"
+    assert lines[file, "IsPaired"].isdigit() and lines[file, "specs.Planned.IsPaired"] == lines[file, "IsPaired"]
     anchors = {it.name: set(it.anchors()) for it in every}
     assert all(len(list(it.anchors())) == len(anchors[it.name]) for it in every), "no anchor twice"
     assert {"relay", "relay.whole", "relay.stopped"} <= anchors["krb_relay"], "clauses of relay"
-    assert {"specs.Planned.Headline", "specs.Planned.IsPaired"} <= anchors["krb_peers"], "what is shown of a lane"
     modules = {row[0][0].text for block in every[1].blocks if isinstance(block, pages.Table) for row in block.rows}
     assert ({"krb_peers: Claims", "krb_peers: Attempt", "krb_aes: Cipher"} <= modules
             and "krb_peers: Planned" not in modules), "what the headline reaches"
-
-
-def targets(block):
-    """What a block links to."""
-    if isinstance(block, pages.Paragraph):
-        return [it.target for it in block.parts]
-    if isinstance(block, pages.Listing):
-        return [it.target for entry in block.entries for it in entry]
-    if isinstance(block, pages.Source):
-        return list(block.links.values())
-    if isinstance(block, pages.ClauseBlock):
-        return list(block.source.links.values())
-    return []
-
-
-def section(page, anchor):
-    """The blocks below a heading, with those of smaller headings there."""
-    level, found = None, []
-    for block in page.blocks:
-        if isinstance(block, pages.Heading):
-            if level is not None and block.level <= level:
-                return found
-            if block.anchor == anchor:
-                level = block.level
-        elif level is not None:
-            found.append(block)
-    return found
-
-
-def test_walk():
-    """From the contracts of the headline, each definition that they reach is found link by link."""
-    writer = pages.Writer(sources.read_project())
-    every = {it.name: it for it in [writer.crate(name) for name in writer.project.crates]}
-    near = [pages.Target(crate, name) for crate, name, _ in writer.headline_calls()]
-    seen = set()
-    while near:
-        target = near.pop()
-        if target is not None and target.anchor and target not in seen:
-            seen.add(target)
-            near += [it for block in section(every[target.page], target.anchor)
-                     for it in targets(block)]
-    wanted = {writer.target(ref) for ref in writer.headline if writer.project.definition(ref)}
-    assert len(wanted) > 100 and wanted <= seen, "the walk from the headline"
 
 
 def test_promised():

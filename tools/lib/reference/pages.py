@@ -12,7 +12,7 @@ from typing import Dict, Iterable, Iterator, List, Optional, Set, Tuple, Union
 
 from lib.reference import sources
 from lib.reference.sources import (
-    KIT, Clause, Definition, Function, Item, Module, Project, Ref, Scope)
+    KIT, Clause, Definition, Function, Item, Project, Ref, Scope)
 
 INDEX, HEADLINE, PROMISES = "README", "headline", "promises"
 LAW = Ref("krb_peers", "", "frames_laws")       # its contract is the headline
@@ -252,7 +252,7 @@ def shown_ghosts(made: sources.Implementation) -> List[Clause]:
 
 # ---- docs
 
-FENCE = "```"
+TYPES, TRAITS = ("struct", "enum", "type"), ("trait",)
 PART = re.compile(r"\[`([^`\]]+)`\](?:\(([^)]*)\))?|`([^`]+)`|\[([^\]]+)\]\(([^)]+)\)")
 
 
@@ -322,35 +322,10 @@ class Writer:
                 found.append(Inline(match[4], False, self.named(crate, match[5])))
         return found + ([Inline(text[at:])] if at < len(text) else [])
 
-    def prose(self, crate: str, text: str) -> Iterator[Block]:
-        """The blocks of a doc comment: paragraphs, lists and code."""
-        lines: List[str] = []
-        fenced: Optional[List[str]] = None
-        for line in text.split("\n"):
-            if fenced is not None and line.strip() == FENCE:
-                yield Source("\n".join(fenced), "rust", {})
-                fenced = None
-            elif fenced is not None:
-                fenced.append(line)
-            elif line.startswith(FENCE):
-                yield from self.paragraph(crate, lines)
-                lines, fenced = [], []
-            elif not line.strip():
-                yield from self.paragraph(crate, lines)
-                lines = []
-            else:
-                lines.append(line)
-        yield from self.paragraph(crate, lines)
-
-    def paragraph(self, crate: str, lines: List[str]) -> Iterator[Block]:
-        begins = [at for at, line in enumerate(lines) if re.match(r"[-*] ", line)]
-        before = lines[:begins[0]] if begins else lines
-        if before:
-            yield Paragraph(self.inlines(crate, " ".join(it.strip() for it in before)))
-        if begins:
-            ends = begins[1:] + [len(lines)]
-            yield Listing([self.inlines(crate, " ".join(it.strip() for it in lines[at:end])[2:])
-                           for at, end in zip(begins, ends)])
+    def said(self, crate: str, doc: str) -> Iterator[Block]:
+        """The first paragraph of a doc comment."""
+        if doc:
+            yield Paragraph(self.inlines(crate, " ".join(doc.split("\n\n")[0].split())))
 
     # ---- items
 
@@ -365,7 +340,7 @@ class Writer:
     def function(self, crate: str, made: Function, owner: str, level: int) -> Iterator[Block]:
         name = f"{owner}.{made.name}" if owner else made.name
         yield Heading(level, name.replace(".", "::"), name, True)
-        yield from self.prose(crate, made.doc)
+        yield from self.said(crate, made.doc)
         links = self.links(self.graph.of_text(crate, made.signature))
         yield Source(made.signature, "rust", links, "Types:")
         for clause in made.clauses:
@@ -373,12 +348,11 @@ class Writer:
 
     def item(self, crate: str, item: Item, level: int) -> Iterator[Block]:
         yield Heading(level, item.name, item.name, True)
-        yield from self.prose(crate, item.doc)
+        yield from self.said(crate, item.doc)
         named = item.declaration if item.kind == "trait" else fields_of(item)
         links = self.links(self.graph.of_text(crate, named))
         links.pop(item.name, None)
         yield Source(item.declaration, "rust", links, "Types:")
-        yield from self.seen(crate, item)
         if item.kind == "trait":
             for clause in item.clauses:
                 yield self.clause(crate, item.name, item.scope, clause)
@@ -391,94 +365,29 @@ class Writer:
                         yield from self.function(crate, made, item.name, level + 1)
         yield from self.implemented(crate, item)
 
-    def seen(self, crate: str, item: Item) -> Iterator[Block]:
-        seen = item.seen_as()
-        if seen is None:
-            return
-        scope = next(it.scope for it in item.implementations if it.trait == "Model")
-        links = self.links(self.graph.of_clause(crate, scope, seen))
-        yield Paragraph([Inline("Contracts see it as "),
-                         Inline(seen.text, True, links.get(seen.text)), Inline(".")])
-
     def implemented(self, crate: str, item: Item) -> Iterator[Block]:
-        """The traits of an item, with what contracts know of them."""
-        names = []
+        """What contracts know of the traits of an item."""
         for part in item.implementations:
-            if not part.trait or part.trait == "Model":
-                continue
-            said = shown_ghosts(part)
-            if not said:
-                names.append(part.header)
-                continue
-            yield Paragraph([Inline(part.header, True), Inline(", of which callers know:")])
-            for clause in said:
-                yield self.clause(crate, f"{item.name}.{part.label()}", part.scope, clause)
-        if names:
-            yield Paragraph([Inline("Also: ")] + [
-                it for name in names for it in (Inline(name, True), Inline(", "))][:-1])
-
-    # ---- definitions
-
-    def definition(self, definition: Definition) -> Iterator[Block]:
-        ref = definition.ref
-        yield Heading(4, ref.word, f"specs.{ref.module}.{ref.word}", True)
-        if definition.comment:
-            yield Paragraph(self.inlines(ref.crate, sentence(definition.comment)))
-        links = self.links(self.graph.of_definition(definition))
-        yield Source(definition.text, "", links)
-
-    def module(self, module: Module) -> Iterator[Block]:
-        shown = [it for it in module.definitions if it.ref in self.shown]
-        if not shown:
-            return
-        yield Heading(3, module.name, f"specs.{module.name}", True)
-        about = self.inlines(module.crate, sentence(module.comment) + " ") if module.comment else []
-        yield Paragraph(about + [Inline("From "), link_to(module.file), Inline(".")])
-        for definition in shown:
-            yield from self.definition(definition)
+            if part.trait and part.trait != "Model":
+                for clause in shown_ghosts(part):
+                    yield self.clause(crate, f"{item.name}.{part.label()}", part.scope, clause)
 
     # ---- pages
 
     def crate(self, name: str) -> Page:
+        """The public items of a crate and the types that definitions speak of, with their clauses."""
         crate = self.project.crates[name]
-        blocks: List[Block] = [Heading(1, name, "", True)]
-        blocks += self.prose(name, crate.doc)
-        blocks += self.stands_on(name)
         items = [crate.items[it] for it in crate.public if it in crate.items]
-        groups = [("Types", ("struct", "enum", "type")), ("Traits", ("trait",)),
-                  ("Constants", ("const", "static"))]
-        for title, kinds in groups[:2]:
-            blocks += self.group(name, title, [it for it in items if it.kind in kinds])
-        functions = [crate.functions[it] for it in crate.public if it in crate.functions]
-        if functions:
-            blocks.append(Heading(2, "Functions", "functions"))
-        for made in functions:
+        hidden = sorted((it for it in crate.items.values() if it.name not in crate.public
+                         and Ref(name, "", it.name) in self.shown), key=lambda it: it.name)
+        blocks: List[Block] = []
+        for kinds in TYPES, TRAITS:
+            blocks += [block for it in items if it.kind in kinds for block in self.item(name, it, 3)]
+        for made in [crate.functions[it] for it in crate.public if it in crate.functions]:
             blocks += self.function(name, made, "", 3)
-        blocks += self.group(name, groups[2][0], [it for it in items if it.kind in groups[2][1]])
-        hidden = [it for it in crate.items.values() if it.name not in crate.public
-                  and Ref(name, "", it.name) in self.shown]
-        blocks += self.group(name, "Further types that definitions speak of",
-                             sorted(hidden, key=lambda it: it.name))
-        modules = [block for it in crate.modules.values() for block in self.module(it)]
-        if modules:
-            blocks += [Heading(2, "Definitions", "definitions"), *modules]
+        constants = [it for it in items if it.kind not in (*TYPES, *TRAITS)]
+        blocks += [block for it in [*constants, *hidden] for block in self.item(name, it, 3)]
         return Page(name, name, blocks)
-
-    def group(self, crate: str, title: str, items: List[Item]) -> Iterator[Block]:
-        if items:
-            yield Heading(2, title, title.split()[0].lower())
-        for item in items:
-            yield from self.item(crate, item, 3)
-
-    def stands_on(self, name: str) -> Iterator[Block]:
-        below = [it for it in self.project.crates[name].deps if self.project.crates[it].public]
-        if below:
-            yield Paragraph([Inline("It stands on ")] + joined(
-                Inline(it, True, Target(it)) for it in below) + [Inline(".")])
-        for other, names in self.project.crates[name].shown.items():
-            yield Paragraph([Inline("It also shows, of "), Inline(other, True, Target(other)),
-                             Inline(": ")] + joined(
-                Inline(it, True, self.named(other, it)) for it in names) + [Inline(".")])
 
     def index(self) -> Page:
         blocks: List[Block] = [
@@ -594,10 +503,6 @@ class Writer:
                        for module in sorted(words)])
 
 
-def link_to(file: str) -> Inline:
-    return Inline(file, True, Target("", "", file))
-
-
 def joined(parts: Iterable[Inline]) -> List[Inline]:
     return [it for part in parts for it in (part, Inline(", "))][:-1]
 
@@ -687,7 +592,8 @@ def lines_of(project: Project, crates: List[Page]) -> Dict[Tuple[str, str], str]
             found[file, anchor] = line
     for crate in project.crates.values():
         for module in crate.modules.values():
-            found.update(((it.file, it.ref.word), str(it.line)) for it in module.definitions)
+            for it in module.definitions:
+                found[it.file, it.ref.word] = found[it.file, f"specs.{it.ref.module}.{it.ref.word}"] = str(it.line)
     return found
 
 
