@@ -40,7 +40,7 @@ static void report_away(struct nats_carrier *c)
         return;
     c->told_away = milliseconds();
     log_fact(LEVEL_WARNING, "carrier_away", field_text("fault", natsStatus_GetText(status)),
-             field_text("detail", detail != NULL ? detail : ""),
+             field_text("detail", c->has_password || detail == NULL ? "" : detail),
              field_text("text", "there is no connection now: another one is tried all the time"));
 }
 
@@ -276,9 +276,8 @@ static const char *what_to_do(natsStatus status)
     }
 }
 
-static void report_unopened(const char *where, natsStatus status)
+static void report_unopened(const char *where, int has_password, natsStatus status)
 {
-    int has_password = strchr(where, '@') != NULL;
     const char *detail = nats_GetLastError(NULL); /* such as that a certificate has expired */
     log_fact(LEVEL_ERROR, "carrier_unopened", field_number("servers", (uint64_t)count_of(where)),
              field_text("carrier", has_password ? "" : where), field_text("fault", natsStatus_GetText(status)),
@@ -294,12 +293,13 @@ struct carrier *nats_carrier_open(const struct carrier_options *options)
     c->base = (struct carrier){ nats_incarnation, nats_make, nats_publish, nats_confirmed, nats_seek, nats_fetch,
                                 nats_behind, nats_acknowledge, nats_receipts, nats_forget, is_away, is_closed, close_it, NULL };
     c->replicas = options->replicas;
+    c->has_password = strchr(options->where, '@') != NULL;
     status = natsOptions_Create(&c->options);
     if (status == NATS_OK && set_options(c->options, options) == NATS_OK) {
         status = begin(c);
         if (status == NATS_OK)
             return &c->base;
-        report_unopened(options->where, status);
+        report_unopened(options->where, c->has_password, status);
     }
     close_it(&c->base);
     return NULL;
