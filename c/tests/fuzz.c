@@ -1,7 +1,7 @@
 /* A fuzzer of the calls that read messages. Each message is given to openers, receivers and peers of
  * both modes and encryption types, by all calls that open: these must agree with one another, and write
  * nothing where they refuse. Messages are those of frames.h with bytes changed, cut, added and copied, or
- * those that are given. sequences.c tries the other calls.
+ * those that are given. sequences.py tries the other calls.
  *
  *   fuzz [COUNT [SEED]]        tries so many messages
  *   fuzz lines COUNT SEED      prints each with what krbrelay_opener_unseal answers, which
