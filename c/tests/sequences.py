@@ -170,7 +170,7 @@ class Sequences:
         self.window, self.taken, self.progress = c.WindowStruct(), set(), c.ProgressStruct()
         weights = {self.make_sealer: 1, self.seal: 3, self.seal_record: 3, self.seal_now: 1, self.seal_many: 2,
                    self.ask_sealer: 1, self.make_opener: 1, self.unseal: 3, self.open_frame: 4, self.make_receiver: 1,
-                   self.take: 3, self.take_several: 1, self.end: 1, self.use_peer: 6, self.take_number: 1,
+                   self.take: 3, self.take_several: 2, self.end: 1, self.use_peer: 6, self.take_number: 1,
                    self.go_on: 1, self.name_answers: 1, self.ask_system: 1, self.read_header: 1}
         self.steps = [step for step, count in weights.items() for _ in range(count)]
 
@@ -182,7 +182,7 @@ class Sequences:
 
     def holds(self, fact: bool, what: str, *told: Any) -> None:
         if not fact:
-            raise AssertionError(f"after {self.made} calls: not so: {what}: {told}")
+            raise AssertionError(f"after {self.made} calls: not so: {what}: {told}"[:300])
 
     def asked(self, name: str, *words: Any) -> Any:
         """What a call returns."""
@@ -267,9 +267,9 @@ class Sequences:
             demand.skew = self.draw(400)
         if how_number:
             demand.number = self.draw(60) if self.one_in(8) else it.by.number
-        wrong = ({"how_sender": 3}, {"how_number": 4}, {"how_time": 4}, {"how_time": 0, "skew": 1},
-                 {"how_receiver": 0, "receiver": host(SERVER)}, {"how_number": 0, "number": 1},
-                 {"needs_time_or_number": 2}, {"reserved": (0, 0, 0, 1)})
+        wrong = ({"how_sender": 3}, {"how_receiver": 3}, {"how_number": 4}, {"how_time": 4}, {"how_time": 0, "skew": 1},
+                 {"needs_time_or_number": 2}, {"how_receiver": 0, "receiver": host(SERVER)},
+                 {"how_number": 0, "number": 1}, {"reserved": (0, 0, 0, 1)})
         chosen = self.random.choice(wrong) if self.one_in(25) else {}
         for name, value in chosen.items():
             setattr(demand, name, value)
@@ -384,7 +384,7 @@ class Sequences:
 
     def seal_record(self, i: int) -> None:
         kind, texts = 1 + self.draw(3), [b"text"[:self.draw(5)] for _ in range(2 + self.draw(2))]
-        given = 4 + self.draw(9) if self.one_in(20) else kind
+        given = self.random.choice((0, 4, 5, LAST)) if self.one_in(20) else kind
         user = {TEXT: b"D" + self.random.randbytes(self.draw(DATA)), BATCH: frames.batch(texts),
                 CLOSE: b"Cx" if self.one_in(5) else b"C"}[kind]         # a close has no bytes
         before, words = unless(given == kind and user != b"Cx", A.RECORD), (given, user[1:], len(user) - 1)
@@ -457,7 +457,8 @@ class Sequences:
         same = (c_uint8 * len(it.frame)).from_buffer_copy(it.frame)
         self.call("opener_unseal_in_place", opened, byref(by.handle), same, len(same), number, at, size)
         self.holds(size.value == (UNTOLD if opened else len(it.user)), "the size of what is unsealed in place")
-        self.holds(bytes(same) == it.frame if opened else bytes(same)[:size.value] == it.user, "what is in place")
+        wanted = it.frame if opened else it.user + it.frame[len(it.user):]
+        self.holds(bytes(same) == wanted, "what is in place, and what stands after it", bytes(same))
 
     def open_frame(self, i: int) -> None:
         by, (at, reason), carried = self.openers[i], self.some_moment(), c.CarriedStruct()

@@ -204,7 +204,7 @@ class Opening(unittest.TestCase):
                     (How.REQUIRED, 300, second, 37), (How.IF_PRESENT, 300, second, 37),
                     (How.ABSENT_IS_0, 0, second, b"Dhi"), (How.ABSENT_IS_0, 0, second + 1, 37),
                     (How.ABSENT_IS_0, 1, second + 10**6, b"Dhi"),
-                    (How.ABSENT_IS_0, 1, second - 10**6, b"Dhi"),
+                    (How.ABSENT_IS_0, 1, second - 10**6, b"Dhi"), (How.ABSENT_IS_0, 1, second - 10**6 - 1, 37),
                     (How.ABSENT_IS_0, 1, second + 10**6 + 1, 37)):
                 opened = outcome(opener.open, frame, Demand(skew=skew, how_time=how), at)
                 self.assertEqual(opened if isinstance(opened, int) else opened.user_data, expected)
@@ -219,7 +219,10 @@ class Opening(unittest.TestCase):
                 (number + (0xA2,), Demand(skew=1, how_time=How.ABSENT_IS_0, **needs), None),
                 (number + time, Demand(number=0, how_number=How.ABSENT_IS_0, **needs), 41),
                 (number, Demand(number=0, how_number=How.ABSENT_IS_0, **needs), None),
-                (number + time, Demand(number=7, how_number=How.IF_PRESENT, **needs), 41)):
+                (number + time, Demand(number=7, how_number=How.IF_PRESENT, **needs), 41),
+                (number + time, Demand(skew=0, **needs), 37), (number + time, Demand(number=0, **needs), 42),
+                (number + time, Demand(sender=OTHER, **needs), 38),
+                (number + time, Demand(number=0, how_number=How.ABSENT_IS_0), None)):
             frame = frame_of(KEYS[0], Mode.SAFE, b"Dhi", 7, left_out=left_out)
             with Opener(17, KEYS[0], mode=Mode.SAFE) as opener:
                 opened = outcome(opener.open, frame, demand, MICROS)
