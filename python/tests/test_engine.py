@@ -85,18 +85,13 @@ class Senders(unittest.TestCase):
 
     def test_arguments(self):
         for stored in Stored(1, 2), Stored(2, 1, 0, 2), Stored(2**64), Stored(-1, -1, 0, -1):
-            with self.assertRaises(ValueError):
-                Sending(stored, 0)
+            self.assertRaises(ValueError, Sending, stored, 0)
         sending = Sending(Stored(3), 0)
-        with self.assertRaises(ValueError):
-            sending.sealed(NEVER - 2)
-        with self.assertRaises(ValueError):
-            sending.receipt(Receipt(1, OWN[1:]), OWN, 0)
-        with self.assertRaises(ValueError):
-            sending.receipt(Receipt(1, OWN, 4), OWN, 0)
+        self.assertRaises(ValueError, sending.sealed, NEVER - 2)
+        self.assertRaises(ValueError, sending.receipt, Receipt(1, OWN[1:]), OWN, 0)
+        self.assertRaises(ValueError, sending.receipt, Receipt(1, OWN, 4), OWN, 0)
         for call in sending.sealed, sending.listed:
-            with self.assertRaises(TypeError):
-                call("7")
+            self.assertRaises(TypeError, call, "7")
         self.assertEqual(sending, Sending(Stored(3), 0))
 
     def test_a_shard_with_its_sessions(self):
@@ -127,13 +122,11 @@ class Senders(unittest.TestCase):
         lane.reload(0, Stored(5, 3, 12, 3, 8))
         self.assertEqual(lane.turn(100_000), Served(0, Publish(3, 2), False))
         for wrong in (lambda: lane.stop(2), lambda: lane.stored(2)):
-            with self.assertRaises(IndexError):
-                wrong()
+            self.assertRaises(IndexError, wrong)
         for wrong in (lambda: lane.add(Stored(3, 4)), lambda: lane.sealed(0, NEVER), lambda: lane.stop(-1),
                       lambda: lane.add(Stored(9, 4, 0, 5)), lambda: lane.reload(0, Stored(3, 4)),
                       lambda: lane.receipt(0, Receipt(0, NONE, 0), OWN, 0)):
-            with self.assertRaises(ValueError):
-                wrong()
+            self.assertRaises(ValueError, wrong)
 
     def test_an_opening_that_is_held(self):
         lane = Lane()
@@ -153,8 +146,7 @@ class Senders(unittest.TestCase):
         flow.moved(8, 2_020)
         self.assertEqual((flow.under_way, flow.room), (2_212, 0))
         flow.moved(2_012, 0)
-        with self.assertRaises(ValueError):
-            flow.moved(201, 0)
+        self.assertRaises(ValueError, flow.moved, 201, 0)
         flow.list = None
         self.assertEqual((flow.list, flow.under_way, flow.room), (None, 200, 0))
 
@@ -167,8 +159,7 @@ class Turns(unittest.TestCase):
             queue.ready(session)
         self.assertEqual(([queue.serve() for _ in range(3)], len(queue)), ([7, 2, None], 0))
         for session in -1, 2**32:
-            with self.assertRaises(ValueError):
-                queue.ready(session)
+            self.assertRaises(ValueError, queue.ready, session)
         queue.ready(1)
         del queue
         gc.collect()
@@ -204,8 +195,7 @@ class Receivers(unittest.TestCase):
         self.assertEqual(end.take(b"z", accepted=True), Outcome.REPEAT)
         end.dropped()
         self.assertEqual((end.drafted, end.row), (Row(8, history.digest),) * 2)
-        with self.assertRaises(ValueError):
-            Receiving(Row(NEVER), 0).take(b"", accepted=True)
+        self.assertRaises(ValueError, Receiving(Row(NEVER), 0).take, b"", accepted=True)
 
     def test_what_a_receipt_asks_for(self):
         """What comes early doesn't take the place of a refusal."""
@@ -227,8 +217,7 @@ class Receivers(unittest.TestCase):
         reading.stored()
         self.assertEqual((reading.frames(5, 3, 0), reading.read), (Read.ELSEWHERE, Spot(5, 3)))
         self.assertEqual((reading.frames(6, 9, 2), reading.read), (Read.ELSEWHERE, Spot(6, 0)))
-        with self.assertRaises(ValueError):
-            Reading(Spot(5, 10)).frames(5, 10, NEVER - 9)
+        self.assertRaises(ValueError, Reading(Spot(5, 10)).frames, 5, 10, NEVER - 9)
 
     def shard(self, **options):
         """A shard with two sessions at offset 4 of list 7."""
@@ -285,17 +274,14 @@ class Receivers(unittest.TestCase):
     def test_what_a_shard_refuses(self):
         shard = self.shard()
         for wrong in (lambda: shard.rows(2), lambda: shard.unpaid(Due(2, Receipt(1, NONE)))):
-            with self.assertRaises(IndexError):
-                wrong()
+            self.assertRaises(IndexError, wrong)
         for wrong in (lambda: shard.pass_by(5), lambda: shard.take(0, b"", 5, accepted=True),
                       lambda: shard.failed(5, 5), lambda: shard.failed(0, 5),
                       lambda: shard.unpaid(Due(0, Receipt(1, NONE, 0))), lambda: shard.add(Row(-1))):
-            with self.assertRaises(ValueError):
-                wrong()
+            self.assertRaises(ValueError, wrong)
         self.assertEqual((shard.begin(5, 1_000), shard.add(Row(NEVER))), (False, 2))
         for wrong in (lambda: shard.begin(5, 1_000), lambda: shard.take(2, b"a", 5, accepted=True)):
-            with self.assertRaises(ValueError):
-                wrong()
+            self.assertRaises(ValueError, wrong)
         for place, found in ((Spot(7, 3), Found.BEHIND), (Spot(8, 9), Found.BEHIND), (Spot(7, 5), Found.AHEAD)):
             self.assertEqual(shard.found(place), found)
         self.assertEqual(shard.turn(1_000), Load())
@@ -309,8 +295,7 @@ class Receivers(unittest.TestCase):
                 (head, Opening(4, 9, OTHER), Judged.FORKED),
                 (head._replace(closed=False), Opening(4, 9, OWN), Judged.LATER)):
             self.assertEqual(judge(last, opening), wanted)
-        with self.assertRaises(ValueError):
-            judge(head._replace(turn=0), Opening(1, 0, NONE))
+        self.assertRaises(ValueError, judge, head._replace(turn=0), Opening(1, 0, NONE))
 
 
 if __name__ == "__main__":

@@ -101,17 +101,14 @@ class Unsealing(unittest.TestCase):
         frame = frame_of(KEYS[0], Mode.PRIV, b"Dhi")
         with opener_of(KEYS[0], Mode.PRIV) as opener:
             opener.wipe()
-            with self.assertRaises(krbrelay.Wiped):
-                opener.unseal(frame, 7, MICROS)
-            with self.assertRaises(krbrelay.Wiped):
-                opener.open(frame)
+            self.assertRaises(krbrelay.Wiped, opener.unseal, frame, 7, MICROS)
+            self.assertRaises(krbrelay.Wiped, opener.open, frame)
 
     def test_without_addresses(self):
         frame = frame_of(KEYS[0], Mode.PRIV, b"Dhi")
         for addresses in ({}, {"sender": SENDER}, {"receiver": RECEIVER}):
             with Opener(17, KEYS[0], mode=Mode.PRIV, **addresses) as opener:
-                with self.assertRaisesRegex(ValueError, "no sender and receiver"):
-                    opener.unseal(frame, 7, MICROS)
+                self.assertRaisesRegex(ValueError, "no sender and receiver", opener.unseal, frame, 7, MICROS)
                 self.assertEqual(opener.open(frame).user_data, b"Dhi")
 
 
@@ -235,12 +232,10 @@ class Opening(unittest.TestCase):
                            Demand(skew=-1), Demand(skew=0, how_time=4),
                            Demand(receiver=SENDER, how_receiver=How.ABSENT_IS_0),
                            Demand(number=7, how_number=4), Demand(number=7, how_number=0)):
-                with self.assertRaises(ValueError):
-                    opener.open(frame, demand)
+                self.assertRaises(ValueError, opener.open, frame, demand)
             for demand in (None, 7, {}, Demand(sender="10.0.0.1"), Demand(number="7"),
                            Demand(skew=1.0), Demand(receiver=(2, b""))):
-                with self.assertRaises(TypeError):
-                    opener.open(frame, demand)
+                self.assertRaises(TypeError, opener.open, frame, demand)
 
 
 class Headers(unittest.TestCase):
@@ -270,8 +265,7 @@ class Headers(unittest.TestCase):
     def test_of_no_message(self):
         frame = frame_of(KEYS[0], Mode.SAFE, b"Dhi")
         for at in range(len(frame)):
-            with self.assertRaises(reader.Malformed):
-                reader.message(frame[:at])
+            self.assertRaises(reader.Malformed, reader.message, frame[:at])
             self.assertEqual(outcome(krbrelay.message_header, frame[:at]), Code.MALFORMED)
         long = bytes(krbrelay.FRAME_LIMIT + 1)
         self.assertEqual(outcome(krbrelay.message_header, long), Code.FIELD_TOOLONG)
