@@ -66,6 +66,30 @@ static void no_ends(void)
     CHECK(it.progress.next == UINT64_MAX);
 }
 
+/* Rows that are none, which the Python package doesn't pass on; and what a session's end is after a receipt that ends it. */
+static void no_lane(void)
+{
+    static const struct krbrelay_stored none = { .next = 3, .carried = 4 }, behind = { .next = 9, .carried = 4, .done = 5 };
+    static const struct krbrelay_stored stored = { .next = 3, .list = 7 };
+    static const struct krbrelay_receipt no_receipt, forked = { .number = 3, .asks = KRBRELAY_ASKS_NOTHING };
+    struct krbrelay_lane lane = KRBRELAY_INIT;
+    struct krbrelay_sending end;
+    uint32_t place = 99, heard = 99;
+    IS_NOT(krbrelay_lane_add(&lane, &none, 0, &place));
+    IS_NOT(krbrelay_lane_add(&lane, &behind, 0, &place));
+    CHECK(place == 99);
+    IS(krbrelay_lane_add(&lane, &stored, 0, &place));
+    IS_NOT(krbrelay_lane_stop(&lane, 1));
+    IS_NOT(krbrelay_lane_reload(&lane, 0, &none, 0));
+    IS_NOT(krbrelay_lane_sealed(&lane, 0, UINT64_MAX - 2));
+    IS_NOT(krbrelay_lane_receipt(&lane, 0, &no_receipt, own, KRBRELAY_OWN_UNKNOWN, 0, &heard));
+    CHECK(heard == 99);
+    IS(krbrelay_lane_receipt(&lane, 0, &forked, own, KRBRELAY_OWN_KNOWN, 80, &heard));
+    IS(krbrelay_lane_session(&lane, 0, &end));
+    CHECK(heard == KRBRELAY_HEARD_ENDED && end.ended == KRBRELAY_ENDED_FORKED && end.done == 0);
+    krbrelay_lane_free(&lane);
+}
+
 /* ---- shards, and a session's end at a receiver */
 
 static void no_flow(void)
@@ -200,6 +224,7 @@ int main(int argc, char **argv)
 {
     check_only(2, argc, argv);
     RUN(no_ends());
+    RUN(no_lane());
     RUN(no_flow());
     RUN(no_receivers());
     RUN(no_reading());

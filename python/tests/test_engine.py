@@ -136,6 +136,12 @@ class Senders(unittest.TestCase):
         self.assertEqual(lane.turn(110), Served(0, Held(), False))
         lane.release(0)
         self.assertEqual(lane.turn(120), Served(0, Publish(0, 3), False))
+        lane.listed(None)
+        self.assertIsNone(lane.turn(100_000))
+        lane.stop(0)
+        lane.listed(7)
+        lane.reload(0, Stored(3, list=7))
+        self.assertEqual(lane.turn(100_000), Served(0, Publish(0, 3), False))
 
     def test_a_shard(self):
         flow = Flow()
