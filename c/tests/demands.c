@@ -9,7 +9,7 @@
 
 #include <string.h>
 
-static uint8_t keys[2][32], data[4096];
+static uint8_t data[4096];
 static const uint8_t zeros[16];
 static const struct krbrelay_moment now = { SECS, USEC, 0 };
 
@@ -17,8 +17,7 @@ static struct krbrelay_opener opener_from(uint32_t mode, int etype, struct krbre
 {
     struct krbrelay_opener o = { 0 };
     expect.mode = mode;
-    CHECK(krbrelay_opener_new(&o, etype, keys[etype - 17], key_size(etype), &expect)
-          == KRBRELAY_OK);
+    IS(krbrelay_opener_new(&o, etype, keys[etype - 17], key_size(etype), &expect));
     return o;
 }
 
@@ -122,8 +121,7 @@ static void nothing_given(void)
     CHECK(krbrelay_sealer_new(&s, 17, NULL, 0, &session) == KRBRELAY_KEY_SIZE);
     CHECK(krbrelay_sealer_new(&s, 17, keys[0], 16, &session) == KRBRELAY_OK);
     CHECK(krbrelay_sealer_seal(&s, NULL, 0, &now, zeros, NULL, 0, &size) == KRBRELAY_ROOM);
-    CHECK(krbrelay_sealer_seal(&s, NULL, 0, &now, zeros, frame, sizeof frame, &size)
-          == KRBRELAY_OK);
+    IS(krbrelay_sealer_seal(&s, NULL, 0, &now, zeros, frame, sizeof frame, &size));
     CHECK(krbrelay_opener_unseal(&o, NULL, 0, 7, &now, data, 9, &size) == KRBRELAY_MALFORMED);
     CHECK(krbrelay_opener_unseal(&o, safe_17, sizeof safe_17, 7, &now, NULL, 0, &size)
           == KRBRELAY_ROOM);
@@ -137,9 +135,6 @@ static void nothing_given(void)
 int main(int count, char **words)
 {
     check_only(1, count, words);
-    for (int i = 0; i < 16; i++)
-        keys[0][i] = (uint8_t)i;
-    memset(keys[1], 0x11, 32);
     RUN(refusals());
     RUN(long_addresses());
     RUN(nothing_given());

@@ -10,9 +10,6 @@
 #include <string.h>
 #include <time.h>
 
-#define IS(call) CHECK((call) == KRBRELAY_OK)
-#define IS_NOT(call) CHECK((call) == KRBRELAY_ARGUMENT)
-
 static const uint8_t own[KRBRELAY_HISTORY_SIZE] = { 1 };
 
 /* ---- a session's end at a sender */

@@ -15,7 +15,7 @@ enum { ROOM = 4096, MOST = KRBRELAY_MOST_MESSAGES };
 
 static const uint8_t zeros[16];
 static const struct krbrelay_moment now = { SECS, USEC, 0 };
-static uint8_t keys[2][32], text[ROOM], some_data[ROOM];
+static uint8_t text[ROOM], some_data[ROOM];
 
 static const uint8_t *key_of(int etype) { return keys[etype - 17]; }
 
@@ -49,8 +49,7 @@ static struct krbrelay_peer peer_at(int etype, uint32_t mode, enum end end, uint
     struct krbrelay_session session = session_at(mode, end, first);
     struct krbrelay_demand demand = demand_at(end, number);
     struct krbrelay_peer peer = KRBRELAY_INIT;
-    CHECK(krbrelay_peer_new(&peer, etype, key_of(etype), key_size(etype), &session, &demand)
-          == KRBRELAY_OK);
+    IS(krbrelay_peer_new(&peer, etype, key_of(etype), key_size(etype), &session, &demand));
     CHECK(!krbrelay_peer_is_empty(&peer));
     return peer;
 }
@@ -195,8 +194,7 @@ static void reflection(int etype, uint32_t mode)
     struct message it = sealed(&client, "hi", 2);
     struct opened found = opened(&client, &it);
     CHECK(found.answer == KRBRELAY_BADADDR && is_untold(&found) && is_at(&client, 8, 7));
-    CHECK(krbrelay_peer_new(&client, etype, key_of(etype), key_size(etype), &session, &any)
-          == KRBRELAY_OK);
+    IS(krbrelay_peer_new(&client, etype, key_of(etype), key_size(etype), &session, &any));
     CHECK(opened(&client, &it).answer == KRBRELAY_OK && is_at(&client, 7, 8));
     krbrelay_peer_free(&client);
 }
@@ -701,8 +699,7 @@ static struct krbrelay_receiver receiver_at(int etype, uint32_t mode, uint64_t n
 {
     struct krbrelay_expect expect = expect_of(mode);
     struct krbrelay_receiver r = KRBRELAY_INIT;
-    CHECK(krbrelay_receiver_new(&r, etype, key_of(etype), key_size(etype), &expect, number, 0)
-          == KRBRELAY_OK);
+    IS(krbrelay_receiver_new(&r, etype, key_of(etype), key_size(etype), &expect, number, 0));
     return r;
 }
 
@@ -770,9 +767,6 @@ static void numbers_that_are_not_told(void)
 int main(int count, char **words)
 {
     check_only(1, count, words);
-    for (int i = 0; i < 16; i++)
-        keys[0][i] = (uint8_t)i;
-    memset(keys[1], 0x11, 32);
     for (size_t i = 0; i < sizeof some_data; i++)
         some_data[i] = (uint8_t)(i * 11);
     for (int etype = 17; etype <= 18; etype++)
