@@ -147,6 +147,7 @@ def of_taking(by: Held, it: Sealed, at: c.MomentStruct, room: int) -> int:
 def of_opening(by: Held, it: Sealed, demand: c.DemandStruct, at: c.MomentStruct) -> int:
     """By the independent opener, which gives a body of which nothing is demanded."""
     try:
+        opener.read(reader.message, it.frame)
         opener.refuse(A.MSG_TYPE, by.mode != it.by.mode)
         _, _, _, number, sender, receiver = opener.authentic(KEYS[by.etype], it.frame)
     except opener.Refused as refused:
@@ -284,8 +285,13 @@ class Sequences:
     def fitting_frame(self, by: Held, number: Optional[int] = None) -> Sealed:
         """One that a handle of this mode, type and number may accept, more often than not."""
         found = self.random.choices(self.frames, k=20)
-        return next((it for it in found if (it.by.mode, it.by.etype) == (by.mode, by.etype)
-                     and number in (None, it.by.number)), found[0])
+        return self.cut(next((it for it in found if (it.by.mode, it.by.etype) == (by.mode, by.etype)
+                              and number in (None, it.by.number)), found[0]))
+
+    def cut(self, it: Sealed) -> Sealed:
+        """At times it has a byte more, or one less."""
+        frame = it.frame + b"\0" if self.one_in(2) else it.frame[:-1]
+        return dataclasses.replace(it, frame=frame) if self.one_in(30) else it
 
     # ---- handles
 
@@ -473,7 +479,7 @@ class Sequences:
 
     def open_by_peer(self, by: Held, messages: Kept) -> None:
         """Any message of the pair, its own too."""
-        it, (at, reason), carried = self.random.choice(messages), self.some_moment(), c.CarriedStruct()
+        it, (at, reason), carried = self.cut(self.random.choice(messages)), self.some_moment(), c.CarriedStruct()
         room, sender = self.some_room(len(it.user)), CLIENT + SERVER - by.host
         expected = of_empty(by) or reason or of_unsealing(by, it, by.expected, at, sender) \
             or unless(len(it.user) <= room, A.ROOM)
@@ -535,7 +541,7 @@ class Sequences:
         if what < 2:
             self.make_peer(it, far)
         elif what < 8:
-            user = self.random.randbytes(self.draw(DATA))
+            user = TOO_LONG if self.one_in(60) else self.random.randbytes(self.draw(DATA))
             self.seal_by(it, messages, "peer_seal", (user, len(user)), user)
         elif what < 10:
             self.resume_peer(it)
