@@ -21,13 +21,6 @@ static struct krbrelay_opener opener_from(uint32_t mode, int etype, struct krbre
     return o;
 }
 
-static enum krbrelay_answer unseal(struct krbrelay_opener *o, const uint8_t *f, size_t len,
-                                   uint64_t number, struct krbrelay_moment at)
-{
-    size_t size = 0;
-    return krbrelay_opener_unseal(o, f, len, number, &at, data, sizeof data, &size);
-}
-
 /* What opening with demands answers; the user data 44 68 69 come with KRBRELAY_OK alone. */
 static enum krbrelay_answer open_with(struct krbrelay_opener *o, const uint8_t *f, size_t len,
                                       const struct krbrelay_demand *demand,
@@ -92,7 +85,7 @@ static void long_addresses(void)
     struct krbrelay_carried c;
     struct krbrelay_opener o;
     uint8_t frame[KRBRELAY_FRAME_SIZE(3)];
-    size_t size = 0;
+    size_t size = 0, size_of_data = 0;
     session.sender.kind = 256;
     session.sender.len = 34;
     memset(session.sender.bytes, 0x77, 34);
@@ -101,7 +94,7 @@ static void long_addresses(void)
     CHECK(krbrelay_sealer_seal(&s, (const uint8_t *)"Dhi", 3, &now, zeros, frame, sizeof frame,
                                &size) == KRBRELAY_OK);
     o = opener_from(KRBRELAY_PRIV, 18, expect);
-    CHECK(unseal(&o, frame, size, 0, now) == KRBRELAY_OK);
+    IS(krbrelay_opener_unseal(&o, frame, size, 0, &now, data, sizeof data, &size_of_data));
     CHECK(open_with(&o, frame, size, &d, &c) == KRBRELAY_OK);
     CHECK(c.sender.len == 34 && c.sender.kind == 256 && c.sender.bytes[33] == 0x77);
     CHECK(c.sender.bytes[34] == 0 && c.has_number == 1 && c.number == 0);
