@@ -114,8 +114,7 @@ class Several(unittest.TestCase):
                 peer.seal_many([b"a", b"b", b"c"])
             with self.assertRaisesRegex(ValueError, "message 1: .* longer"):
                 peer.seal_many([b"a", bytes(krbrelay.USER_DATA_LIMIT + 1)])
-            with self.assertRaisesRegex(ValueError, "65 messages: a call seals 64 at most"):
-                peer.seal_many([b""] * 65)
+            self.assertRaisesRegex(ValueError, "65 messages: a call seals 64 at most", peer.seal_many, [b""] * 65)
             self.assertEqual(peer.numbers, Numbers(2**32 - 2, 7))
             self.assertEqual(len(peer.seal_many([b"a", b"b"])), 2)
             self.assertEqual(peer.numbers, Numbers(2**32, 7))
@@ -227,8 +226,7 @@ class Arguments(unittest.TestCase):
                     with self.assertRaises(TypeError, msg=name):
                         krbrelay.Opener(17, KEYS[0], **{"mode": Mode.PRIV, name: value})
                 for demand in (Demand(number=value), Demand(how_number=value)):
-                    with self.assertRaises(TypeError):
-                        Peer(17, KEYS[0], mode=Mode.PRIV, sender=OTHER, demand=demand)
+                    self.assertRaises(TypeError, Peer, 17, KEYS[0], mode=Mode.PRIV, sender=OTHER, demand=demand)
                 self.assertRaises(TypeError, Receiving(Row(5), 0).take, frame, accepted=False, opened=value)
                 self.assertRaises(TypeError, Receiving(Row(5), 0).take, frame, accepted=value)
                 with self.assertRaises(TypeError):

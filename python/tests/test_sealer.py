@@ -91,8 +91,7 @@ class Sealing(unittest.TestCase):
             self.assertEqual(sealer.seal(b"C", MICROS),
                              frame_of(KEYS[0], Mode.SAFE, b"C", 2**32 - 1))
             self.assertEqual(sealer.next, 2**32)
-            with self.assertRaisesRegex(krbrelay.Exhausted, "no sequence number is left"):
-                sealer.seal(b"C", MICROS)
+            self.assertRaisesRegex(krbrelay.Exhausted, "no sequence number is left", sealer.seal, b"C", MICROS)
 
     def test_wiping(self):
         with sealer_of(KEYS[0], Mode.PRIV) as sealer:
@@ -126,8 +125,7 @@ class Several(unittest.TestCase):
                 sealer.seal_many([b"a", b"b", b"c"])
             with self.assertRaisesRegex(ValueError, "message 1: .* longer"):
                 sealer.seal_many([b"a", bytes(krbrelay.USER_DATA_LIMIT + 1)])
-            with self.assertRaisesRegex(ValueError, "65 messages: a call seals 64 at most"):
-                sealer.seal_many([b""] * 65)
+            self.assertRaisesRegex(ValueError, "65 messages: a call seals 64 at most", sealer.seal_many, [b""] * 65)
             self.assertEqual(sealer.next, 2**32 - 2)
             self.assertEqual(len(sealer.seal_many([b"a", b"b"])), 2)
             sealer.wipe()

@@ -34,6 +34,10 @@ def of_module(name: str, call: str, old: str, new: str) -> Plant:
     return Plant(name, MODULE, define(call), old, new, f"{call}, in the module: ")
 
 
+def of_header(name: str, call: str, old: str, new: str, what: str) -> Plant:
+    return Plant(name, HEADER, declares(call), old, new, call + what)
+
+
 def of_enum(name: str, old: str, new: str, enum: str) -> Plant:
     return Plant(name, HEADER, "", old, new, f"enum krbrelay_{enum}: ")
 
@@ -49,24 +53,17 @@ PLANTS = [
     of_module("a struct by value in the module", "krbrelay_peer_free", "%a0", "byval([2 x i64]) align 8 %a0"),
     Plant("a function gone from the module", MODULE, define("krbrelay_window_new"),
           "@krbrelay_window_new(", "@window_new(", "exports of module and source: "),
-    Plant("a size of 32 bits in the header", HEADER, declares("krbrelay_frame_size"),
-          "size_t krb", "uint32_t krb", "krbrelay_frame_size, in the module: "),
-    Plant("an etype without a sign", HEADER, declares("krbrelay_opener_new"),
-          "int32_t etype", "uint32_t etype", "krbrelay_opener_new, in the source: "),
-    Plant("two pointers exchanged", HEADER, declares("krbrelay_sealer_seal"),
-          "const struct krbrelay_moment *at,\n"
-          "                                          const uint8_t confounder[16]",
-          "const uint8_t confounder[16], const struct krbrelay_moment *at",
-          "krbrelay_sealer_seal, in the source: "),
-    Plant("two numbers exchanged", HEADER, declares("krbrelay_progress_new"),
-          "uint64_t carried, uint64_t at", "uint64_t at, uint64_t carried",
-          "krbrelay_progress_new, names: "),
-    Plant("a length that is called a size", HEADER, declares("krbrelay_message_header"),
-          "size_t len", "size_t number", "krbrelay_message_header, names: "),
-    Plant("a version with a sign", HEADER, declares("krbrelay_version"),
-          "uint32_t", "int32_t", "krbrelay_version returns u32 in the source, "),
-    Plant("NULL allowed", HEADER, declares("krbrelay_opener_open"),
-          "(1, 4, 5, 8, 9)", "(1, 4, 5, 8)", "krbrelay_opener_open, never NULL: "),
+    of_header("a size of 32 bits in the header", "krbrelay_frame_size", "size_t krb", "uint32_t krb",
+              ", in the module: "),
+    of_header("an etype without a sign", "krbrelay_opener_new", "int32_t etype", "uint32_t etype", ", in the source: "),
+    of_header("two pointers exchanged", "krbrelay_sealer_seal", "const struct krbrelay_moment *at,\n"
+              "                                          const uint8_t confounder[16]",
+              "const uint8_t confounder[16], const struct krbrelay_moment *at", ", in the source: "),
+    of_header("two numbers exchanged", "krbrelay_progress_new", "uint64_t carried, uint64_t at",
+              "uint64_t at, uint64_t carried", ", names: "),
+    of_header("a length that is called a size", "krbrelay_message_header", "size_t len", "size_t number", ", names: "),
+    of_header("a version with a sign", "krbrelay_version", "uint32_t", "int32_t", " returns u32 in the source, "),
+    of_header("NULL allowed", "krbrelay_opener_open", "(1, 4, 5, 8, 9)", "(1, 4, 5, 8)", ", never NULL: "),
     Plant("a function of another name", HEADER, declares("krbrelay_window_take"),
           "krbrelay_window_take(", "krbrelay_window_took(", "functions of module and C: "),
     Plant("a function more in proved.h", PROVED, declares("krbrelay_proved_peer_new"),
@@ -105,8 +102,8 @@ PLANTS = [
             "    KRBRELAY_COMMAND_WAKE = 3,",
             "KRBRELAY_COMMAND_WAKE = 2,         /* the frame of that number leaves again, alone */\n"
             "    KRBRELAY_COMMAND_PROBE = 3,", "command_kind"),
-    Plant("a pause that ends in 32 bits", HEADER, declares("krbrelay_pause_end"),
-          "uint64_t krb", "uint32_t krb", "krbrelay_pause_end, in the module: "),
+    of_header("a pause that ends in 32 bits", "krbrelay_pause_end", "uint64_t krb", "uint32_t krb",
+              ", in the module: "),
     Plant("a session's end with one field less", HEADER, r"^struct krbrelay_sending \{.*?\n\};",
           "    uint64_t window;                    /* so many frames may be under way */\n", "",
           "struct krbrelay_sending, "),
