@@ -1,7 +1,7 @@
-/* Opening with demands: what isn't authentic is refused whatever is demanded, demands that there aren't, and the longest
- * addresses; and NULL with length 0. Which messages meet which demands is tested by the conformance suite, which reads its
- * cases by this library too, and by python/tests/test_opener.py; records, receivers, modes and opening in place by
- * sequences.py. Frames are those of an independent sealer (frames.h). */
+/* Opening with demands: what isn't authentic is refused, and the longest addresses; and NULL with length 0. Which demands
+ * there are is tested by fields.c; which messages meet them by the conformance suite, which reads its cases by this
+ * library too, and by python/tests/test_opener.py; records, receivers, modes and opening in place by sequences.py.
+ * Frames are those of an independent sealer (frames.h). */
 #include "check.h"
 #include "frames.h"
 #include "krbrelay.h"
@@ -38,17 +38,12 @@ static enum krbrelay_answer open_with(struct krbrelay_opener *o, const uint8_t *
     return answer;
 }
 
-/* Whatever is demanded, what isn't authentic stays refused; and demands that there aren't. */
+/* What isn't authentic stays refused where nothing is demanded. */
 static void refusals(void)
 {
     struct krbrelay_opener o = opener_from(KRBRELAY_SAFE, 17, expect_of(KRBRELAY_SAFE));
     struct krbrelay_opener p = opener_from(KRBRELAY_PRIV, 18, expect_of(KRBRELAY_PRIV));
-    struct krbrelay_demand any = { 0 }, bad[] = { { .how_sender = 3 }, { .how_receiver = 3 },
-        { .how_time = 4 }, { .how_number = 4 }, { .needs_time_or_number = 2 }, { .how_sender = 1, .sender = { .len = 41 } },
-        { .how_receiver = 1, .receiver = { .len = 41 } }, { .sender = { .kind = 2 } },
-        { .sender = { .len = 4 } }, { .sender = { .bytes = { 1 } } }, { .receiver = { .kind = 2 } },
-        { .receiver = { .len = 4 } }, { .skew = 1 }, { .number = 1 }, { .number = 1ull << 32 },
-        { .reserved = { 1 } }, { .reserved = { 0, 0, 0, 1 } } };
+    struct krbrelay_demand any = { 0 };
     struct krbrelay_carried c;
     uint8_t changed[sizeof priv_18];
     size_t size;
@@ -64,8 +59,6 @@ static void refusals(void)
         changed[i] ^= 0x10;
         CHECK(open_with(&p, changed, sizeof priv_18, &any, &c) == KRBRELAY_BAD_INTEGRITY);
     }
-    for (size_t i = 0; i < sizeof bad / sizeof bad[0]; i++)
-        CHECK(open_with(&o, safe_17, sizeof safe_17, &bad[i], &c) == KRBRELAY_ARGUMENT);
     CHECK(krbrelay_opener_open(&o, safe_17, sizeof safe_17, &any, &now, data, 2, &size, &c)
           == KRBRELAY_ROOM);
     krbrelay_opener_wipe(&o);

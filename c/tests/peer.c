@@ -1,6 +1,6 @@
 /* Peers, and krbrelay_receiver_take_numbered: two ends of a session in both directions, what a refusal
  * by its number tells, exports, several messages in one call, and the order of the reasons of the calls that make a peer:
- * that of the other calls is tested by sequences.py. */
+ * that of the other calls is tested by sequences.py, and which demands a peer takes by fields.c. */
 #include "check.h"
 #include "frames.h"
 #include "krbrelay.h"
@@ -431,33 +431,6 @@ static void reasons_of_makers(void)
         }
 }
 
-/* Each demand that a peer doesn't take. */
-static void demands_that_are_none(void)
-{
-    struct krbrelay_session session = session_at(KRBRELAY_PRIV, CLIENT, 0);
-    struct krbrelay_demand rows[16];
-    struct krbrelay_peer peer = KRBRELAY_INIT;
-    for (size_t i = 0; i < 16; i++)
-        rows[i] = demand_at(CLIENT, NONE_LEFT);
-    rows[0].how_number = KRBRELAY_IGNORE;
-    rows[1].how_number = KRBRELAY_IF_PRESENT;
-    rows[2].how_number = 4;
-    rows[3].number = NONE_LEFT + 1;
-    rows[4].how_time = 4;
-    rows[5].how_time = KRBRELAY_IGNORE;     /* with a skew */
-    rows[6].how_sender = 3;
-    rows[7].how_sender = KRBRELAY_IGNORE;   /* with an address */
-    rows[8].how_receiver = 3;
-    rows[9].how_receiver = KRBRELAY_IGNORE;
-    rows[10].reserved[0] = rows[11].reserved[3] = 1;
-    rows[12].sender.len = rows[13].receiver.len = 41;
-    rows[14].needs_time_or_number = 2;
-    for (size_t i = 0; i < 15; i++)
-        CHECK(krbrelay_peer_new(&peer, 17, keys[0], 16, &session, &rows[i]) == KRBRELAY_ARGUMENT);
-    CHECK(krbrelay_peer_new(&peer, 17, keys[0], 16, &session, &rows[15]) == KRBRELAY_OK);
-    krbrelay_peer_free(&peer);
-}
-
 /* ---- several messages in one call */
 
 /* So many messages of rising size, each with a moment and a confounder of its own. */
@@ -664,7 +637,6 @@ int main(int count, char **words)
     RUN(bytes_of_exports());
     RUN(exports_that_are_none());
     RUN(reasons_of_makers());
-    RUN(demands_that_are_none());
     RUN(nothing_held());
     RUN(handles_that_move());
     RUN(numbers_that_are_not_told());

@@ -295,11 +295,10 @@ class Sequences:
 
     # ---- handles
 
-    def make(self, name: str, it: Held, before: int, after: int, *words: Any, is_right: bool = False) -> None:
+    def make(self, name: str, it: Held, before: int, after: int, *words: Any) -> None:
         """A handle of a key, which is mostly right, with reasons that come before the key's and after them."""
-        key, size = KEYS[17 if it.etype & 1 else 18], self.draw(33)
-        if is_right or not self.one_in(30):
-            size = len(key)
+        key = KEYS[17 if it.etype & 1 else 18]
+        size = self.draw(33) if self.one_in(30) else len(key)
         reason = unless(it.etype in KEYS, A.ETYPE) or unless(size == len(key), A.KEY_SIZE)
         expected = before or reason or after
         self.call(name, expected, byref(it.handle), it.etype, (c_uint8 * 32)(*key), size, *words)
@@ -351,7 +350,7 @@ class Sequences:
         (session, after), (demand, before) = self.some_session(it, first), self.some_peer_demand(it, again)
         before = before or unless(not is_changed and session.first == demand.number == 0, A.ARGUMENT) \
             or unless(it.number <= LAST, A.EXHAUSTED)
-        self.make("peer_resume", it, before, after, session, demand, state, is_right=True)
+        self.make("peer_resume", it, before, after, session, demand, state)
 
     def end(self, i: int) -> None:
         """Frees a handle, or wipes it."""
@@ -409,9 +408,7 @@ class Sequences:
         """Up to 13 messages, or too many, of which each may be none that can be sealed: the first such one is told."""
         name, by, to = self.random.choice((("sealer_seal_many", self.sealers[i], self.frames),
                                            ("peer_seal_many", self.peers[i][self.draw(2)], self.messages[i])))
-        count, first, made = self.draw(SEVERAL + 1), UNTOLD, []
-        if self.one_in(20):
-            count = c.MOST_MESSAGES + 1
+        count, first, made = c.MOST_MESSAGES + 1 if self.one_in(20) else self.draw(SEVERAL + 1), UNTOLD, []
         users = [TOO_LONG if self.one_in(200) else self.some_user_data() for _ in range(count)]
         ats, confounders = [self.some_moment() for _ in users], [self.random.randbytes(16) for _ in users]
         expected = unless(count <= c.MOST_MESSAGES, A.ARGUMENT) or of_empty(by)
