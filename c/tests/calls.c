@@ -17,7 +17,6 @@
 #include <time.h>
 
 static uint8_t frame[KRBRELAY_FRAME_SIZE(100)], text[KRBRELAY_FRAME_SIZE(100)];
-static uint8_t keys[2][32];
 
 /* ---- the system's calls */
 
@@ -207,15 +206,13 @@ static void frames_of_a_peer(void)
         size_t size = 0, len = 0;
         uint64_t numbers[2] = { 0, 0 };
         tell_receiver(&session);
-        CHECK(krbrelay_sealer_new(&s, etype, keys[etype - 17], key_size(etype), &session)
-              == KRBRELAY_OK);
+        IS(krbrelay_sealer_new(&s, etype, keys[etype - 17], key_size(etype), &session));
         CHECK(peer_of(&p, etype, keys[etype - 17], KRBRELAY_PRIV, 1) == KRBRELAY_OK);
         set_system();
         CHECK(seal_now(&s, sizeof frame, &len) == KRBRELAY_OK);
         memcpy(expected, frame, len);
         set_system();
-        CHECK(krbrelay_peer_seal_now(&p, (const uint8_t *)"Dhi", 3, frame, sizeof frame, &size)
-              == KRBRELAY_OK);
+        IS(krbrelay_peer_seal_now(&p, (const uint8_t *)"Dhi", 3, frame, sizeof frame, &size));
         CHECK(size == len && memcmp(frame, expected, len) == 0);
         CHECK(krbrelay_peer_state(&p, &numbers[0], &numbers[1]) == KRBRELAY_OK);
         CHECK(numbers[0] == 8 && numbers[1] == 7);
@@ -336,8 +333,7 @@ static void records(void)
     CHECK(krbrelay_sealer_seal_record_now(&s, KRBRELAY_TEXT, (const uint8_t *)"hi", 2, frame,
                                           sizeof frame, &len) == KRBRELAY_OK);
     CHECK(krbrelay_now(&now) == KRBRELAY_OK);
-    CHECK(krbrelay_receiver_take(&r, frame, len, &now, &kind, text, sizeof text, &size)
-          == KRBRELAY_OK);
+    IS(krbrelay_receiver_take(&r, frame, len, &now, &kind, text, sizeof text, &size));
     CHECK(kind == KRBRELAY_TEXT && size == 2 && memcmp(text, "hi", 2) == 0);
     krbrelay_sealer_free(&s);
     krbrelay_receiver_free(&r);
@@ -419,29 +415,26 @@ static void no_addresses(void)
 
 /* ---- answers */
 
-struct sorted { uint32_t answer; enum krbrelay_class class; };
-
 /* Each answer of the header, by its number. */
-static const struct sorted sorted[] = {
-    { 0, KRBRELAY_CLASS_OK }, { 1, KRBRELAY_CLASS_STATE }, { 2, KRBRELAY_CLASS_CALLER },
-    { 3, KRBRELAY_CLASS_STATE }, { 14, KRBRELAY_CLASS_REFUSAL }, { 31, KRBRELAY_CLASS_REFUSAL },
-    { 37, KRBRELAY_CLASS_REFUSAL }, { 38, KRBRELAY_CLASS_REFUSAL }, { 39, KRBRELAY_CLASS_REFUSAL },
-    { 40, KRBRELAY_CLASS_REFUSAL }, { 41, KRBRELAY_CLASS_REFUSAL }, { 42, KRBRELAY_CLASS_REFUSAL },
-    { 50, KRBRELAY_CLASS_REFUSAL }, { 61, KRBRELAY_CLASS_REFUSAL }, { 901, KRBRELAY_CLASS_REFUSAL },
-    { 902, KRBRELAY_CLASS_REFUSAL }, { 903, KRBRELAY_CLASS_REFUSAL }, { 904, KRBRELAY_CLASS_MEMORY },
-    { 905, KRBRELAY_CLASS_CALLER }, { 906, KRBRELAY_CLASS_CALLER }, { 907, KRBRELAY_CLASS_STATE },
-    { 908, KRBRELAY_CLASS_CALLER }, { 909, KRBRELAY_CLASS_CALLER }, { 910, KRBRELAY_CLASS_CALLER },
-    { 911, KRBRELAY_CLASS_CALLER }, { 912, KRBRELAY_CLASS_CALLER }, { 913, KRBRELAY_CLASS_CALLER },
-    { 914, KRBRELAY_CLASS_SYSTEM }, { 915, KRBRELAY_CLASS_SYSTEM }, { 916, KRBRELAY_CLASS_SYSTEM },
-    { 917, KRBRELAY_CLASS_REFUSAL }, { 918, KRBRELAY_CLASS_REFUSAL },
-};
-
 static enum krbrelay_class class_of(uint32_t answer)
 {
-    for (size_t i = 0; i < sizeof sorted / sizeof sorted[0]; i++)
-        if (sorted[i].answer == answer)
-            return sorted[i].class;
-    return KRBRELAY_CLASS_UNKNOWN;
+    switch (answer) {
+    case 0:
+        return KRBRELAY_CLASS_OK;
+    case 1: case 3: case 907:
+        return KRBRELAY_CLASS_STATE;
+    case 2: case 905: case 906: case 908: case 909: case 910: case 911: case 912: case 913:
+        return KRBRELAY_CLASS_CALLER;
+    case 904:
+        return KRBRELAY_CLASS_MEMORY;
+    case 914: case 915: case 916:
+        return KRBRELAY_CLASS_SYSTEM;
+    case 14: case 31: case 37: case 38: case 39: case 40: case 41: case 42: case 50: case 61:
+    case 901: case 902: case 903: case 917: case 918:
+        return KRBRELAY_CLASS_REFUSAL;
+    default:
+        return KRBRELAY_CLASS_UNKNOWN;
+    }
 }
 
 /* What krbrelay_answer_text says of the number, whose texts answers.c has. */
@@ -492,9 +485,6 @@ static void empty_handles(void)
 int main(int count, char **words)
 {
     check_only(1, count, words);
-    for (int i = 0; i < 16; i++)
-        keys[0][i] = (uint8_t)i;
-    memset(keys[1], 0x11, 32);
     CHECK(krbrelay_is_supported() == 1);
     RUN(clocks());
     RUN(frames_of_another_sealer());

@@ -20,6 +20,10 @@ static inline void check_counted(int holds, const char *what, const char *file, 
 
 #define CHECK(fact) check_counted((fact) ? 1 : 0, #fact, __FILE__, __LINE__)
 
+/* A call of the library that is done, and one that refuses an argument. */
+#define IS(call) CHECK((call) == KRBRELAY_OK)
+#define IS_NOT(call) CHECK((call) == KRBRELAY_ARGUMENT)
+
 /* A fact without which nothing after it makes sense: if it doesn't hold the program ends. */
 static inline void check(int holds, const char *what)
 {

@@ -77,8 +77,7 @@ static void use_sealer(void)
     struct krbrelay_session session = session_of(use.mode, 7);
     struct krbrelay_sealer s = KRBRELAY_INIT;
     CHECK(krbrelay_sealer_new(&s, use.etype, key, key_size(use.etype), &session) == KRBRELAY_OK);
-    CHECK(krbrelay_sealer_seal(&s, data, SIZE, &now, confounder, frame, ROOM, &frame_size)
-          == KRBRELAY_OK);
+    IS(krbrelay_sealer_seal(&s, data, SIZE, &now, confounder, frame, ROOM, &frame_size));
     krbrelay_sealer_free(&s);
 }
 
@@ -90,8 +89,7 @@ static void use_opener(void)
     struct krbrelay_carried carried;
     size_t size = 0;
     CHECK(krbrelay_opener_new(&o, use.etype, key, key_size(use.etype), &expect) == KRBRELAY_OK);
-    CHECK(krbrelay_opener_open(&o, frame, frame_size, &any, &now, text, ROOM, &size, &carried)
-          == KRBRELAY_OK);
+    IS(krbrelay_opener_open(&o, frame, frame_size, &any, &now, text, ROOM, &size, &carried));
     CHECK(krbrelay_opener_unseal(&o, frame, frame_size, 7, &now, text, ROOM, &size) == KRBRELAY_OK);
     CHECK(size == SIZE && memcmp(text, data, SIZE) == 0);
     krbrelay_opener_free(&o);
@@ -115,13 +113,10 @@ static void use_receiver(void)
     struct krbrelay_receiver r = KRBRELAY_INIT;
     uint32_t kind = 0;
     size_t size = 0;
-    CHECK(krbrelay_receiver_new(&r, use.etype, key, key_size(use.etype), &expect, 7, 0)
-          == KRBRELAY_OK);
+    IS(krbrelay_receiver_new(&r, use.etype, key, key_size(use.etype), &expect, 7, 0));
     take_many(&r);
-    CHECK(krbrelay_receiver_new(&r, use.etype, key, key_size(use.etype), &expect, 7, 0)
-          == KRBRELAY_OK);
-    CHECK(krbrelay_receiver_take(&r, frame, frame_size, &now, &kind, text, ROOM, &size)
-          == KRBRELAY_OK);
+    IS(krbrelay_receiver_new(&r, use.etype, key, key_size(use.etype), &expect, 7, 0));
+    IS(krbrelay_receiver_take(&r, frame, frame_size, &now, &kind, text, ROOM, &size));
     krbrelay_receiver_free(&r);
 }
 
@@ -155,8 +150,7 @@ static void use_peer(void)
     session.first = 3;
     demand.number = 7;
     CHECK(krbrelay_peer_new(&p, use.etype, key, key_size(use.etype), &session, &demand) == KRBRELAY_OK);
-    CHECK(krbrelay_peer_seal_many(&p, many, MANY, many_frames, sizeof many_frames, many_sizes, &many_failed)
-          == KRBRELAY_OK);
+    IS(krbrelay_peer_seal_many(&p, many, MANY, many_frames, sizeof many_frames, many_sizes, &many_failed));
     CHECK(krbrelay_peer_seal_now(&p, data, SIZE, other, ROOM, &n) == KRBRELAY_OK);
     CHECK(krbrelay_peer_seal(&p, data, SIZE, &now, confounder, other, ROOM, &n) == KRBRELAY_OK);
     CHECK(krbrelay_peer_open(&p, other, n, &now, text, ROOM, &size, &carried) == KRBRELAY_BADORDER);
@@ -164,8 +158,7 @@ static void use_peer(void)
     CHECK(krbrelay_peer_export(&p, state) == KRBRELAY_OK);
     session.first = 0;
     demand.number = 0;
-    CHECK(krbrelay_peer_resume(&p, use.etype, key, key_size(use.etype), &session, &demand, state)
-          == KRBRELAY_OK);
+    IS(krbrelay_peer_resume(&p, use.etype, key, key_size(use.etype), &session, &demand, state));
     krbrelay_peer_free(&p);
 }
 
@@ -185,10 +178,8 @@ static void use_others(void)
     CHECK(krbrelay_sealer_seal_now(&s, data, SIZE, other, ROOM, &size) == KRBRELAY_OK);
     CHECK(krbrelay_sealer_set_mode(&s, use.mode) == KRBRELAY_OK);
     CHECK(krbrelay_sealer_frame_size(&s, SIZE, &now, &n) == KRBRELAY_OK);
-    CHECK(krbrelay_sealer_seal_record_now(&s, KRBRELAY_TEXT, data, SIZE, other, ROOM, &size)
-          == KRBRELAY_OK);
-    CHECK(krbrelay_sealer_seal_many(&s, many, MANY, many_frames, sizeof many_frames, many_sizes, &many_failed)
-          == KRBRELAY_OK);
+    IS(krbrelay_sealer_seal_record_now(&s, KRBRELAY_TEXT, data, SIZE, other, ROOM, &size));
+    IS(krbrelay_sealer_seal_many(&s, many, MANY, many_frames, sizeof many_frames, many_sizes, &many_failed));
     CHECK(krbrelay_opener_new(&o, use.etype, key, key_size(use.etype), &expect) == KRBRELAY_OK);
     CHECK(krbrelay_message_header(frame, frame_size, &header) == KRBRELAY_OK);
     CHECK(krbrelay_answer_text(KRBRELAY_SKEW, name, sizeof name, &n) == KRBRELAY_OK);

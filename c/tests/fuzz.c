@@ -1,7 +1,7 @@
 /* A fuzzer of the calls that read messages. Each message is given to openers, receivers and peers of
  * both modes and encryption types, by all calls that open: these must agree with one another, and write
  * nothing where they refuse. Messages are those of frames.h with bytes changed, cut, added and copied, or
- * those that are given. sequences.c tries the other calls.
+ * those that are given. sequences.py tries the other calls.
  *
  *   fuzz [COUNT [SEED]]        tries so many messages
  *   fuzz lines COUNT SEED      prints each with what krbrelay_opener_unseal answers, which
@@ -22,7 +22,6 @@
 enum { LONGEST = 4096, NUMBER = 7 };
 
 static const struct krbrelay_moment now = { SECS + 1, USEC, 0 };
-static uint8_t keys[2][32];
 static struct krbrelay_opener openers[2][2];
 static struct krbrelay_receiver receivers[2][2];
 static struct krbrelay_peer peers[2][2];
@@ -50,9 +49,6 @@ static void begin(void)
 {
     if (openers[0][0].count != 0)
         return;
-    for (int i = 0; i < 16; i++)
-        keys[0][i] = (uint8_t)i;
-    memset(keys[1], 0x11, 32);
     all = demand_of(1, 255, NUMBER);
     for (uint32_t mode = KRBRELAY_SAFE; mode <= KRBRELAY_PRIV; mode++)
         for (int wide = 0; wide < 2; wide++) {

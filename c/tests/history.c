@@ -5,43 +5,26 @@
 
 #include <string.h>
 
-static const uint8_t after_safe_17[20] = {
-    0xd6, 0x24, 0x0c, 0xe1, 0xbf, 0x87, 0xf7, 0x25, 0x39, 0x29,
-    0xa8, 0xcb, 0x1c, 0xf4, 0xf1, 0xfa, 0xb6, 0x5a, 0xf9, 0xdb,
+/* Frames of both kinds, one that is shorter than a code, and one of no bytes, by NULL too; each after those before it. */
+static const struct { const uint8_t *frame; size_t len; const char *digest; } known[] = {
+    { safe_17, sizeof safe_17, "\xd6\x24\x0c\xe1\xbf\x87\xf7\x25\x39\x29\xa8\xcb\x1c\xf4\xf1\xfa\xb6\x5a\xf9\xdb" },
+    { priv_18, sizeof priv_18, "\x92\x31\xdf\x25\xa0\xe1\x27\xda\x58\x42\xe4\x7e\xc0\xb5\x6f\x07\x1d\x9e\x98\xb0" },
+    { (const uint8_t *)"abc", 3, "\x36\xff\xcf\x1a\x71\x32\xd7\x03\xd0\xc2\xc5\x3d\x9c\x5f\x58\xac\x3b\x72\x54\x99" },
+    { NULL, 0, "\x6f\x47\x77\x43\xf2\x59\xf2\x7f\xf2\x46\x0e\xe8\xbc\x91\x51\xed\xf9\xfa\xc2\xd3" },
 };
 
-static const uint8_t and_priv_18[20] = {
-    0x92, 0x31, 0xdf, 0x25, 0xa0, 0xe1, 0x27, 0xda, 0x58, 0x42,
-    0xe4, 0x7e, 0xc0, 0xb5, 0x6f, 0x07, 0x1d, 0x9e, 0x98, 0xb0,
-};
-
-static const uint8_t and_three_bytes[20] = {
-    0x36, 0xff, 0xcf, 0x1a, 0x71, 0x32, 0xd7, 0x03, 0xd0, 0xc2,
-    0xc5, 0x3d, 0x9c, 0x5f, 0x58, 0xac, 0x3b, 0x72, 0x54, 0x99,
-};
-
-static const uint8_t and_none[20] = {
-    0x6f, 0x47, 0x77, 0x43, 0xf2, 0x59, 0xf2, 0x7f, 0xf2, 0x46,
-    0x0e, 0xe8, 0xbc, 0x91, 0x51, 0xed, 0xf9, 0xfa, 0xc2, 0xd3,
-};
-
-static int is_history(const uint8_t *history, const uint8_t *expected)
+static int is_history(const uint8_t *history, const char *expected)
 {
     return memcmp(history, expected, KRBRELAY_HISTORY_SIZE) == 0;
 }
 
-/* Frames of both kinds, one that is shorter than a code, and one of no bytes, by NULL too. */
 static void known_digests(void)
 {
     uint8_t history[KRBRELAY_HISTORY_SIZE] = { 0 };
-    CHECK(krbrelay_history_add(history, safe_17, sizeof safe_17) == KRBRELAY_OK);
-    CHECK(is_history(history, after_safe_17));
-    CHECK(krbrelay_history_add(history, priv_18, sizeof priv_18) == KRBRELAY_OK);
-    CHECK(is_history(history, and_priv_18));
-    CHECK(krbrelay_history_add(history, (const uint8_t *)"abc", 3) == KRBRELAY_OK);
-    CHECK(is_history(history, and_three_bytes));
-    CHECK(krbrelay_history_add(history, NULL, 0) == KRBRELAY_OK);
-    CHECK(is_history(history, and_none));
+    for (size_t i = 0; i < sizeof known / sizeof known[0]; i++) {
+        CHECK(krbrelay_history_add(history, known[i].frame, known[i].len) == KRBRELAY_OK);
+        CHECK(is_history(history, known[i].digest));
+    }
 }
 
 /* The last 12 bytes count, and no others; each of them does, and so does the order. */
@@ -53,7 +36,7 @@ static void what_counts(void)
         changed[i] ^= 1;
         memset(other, 0, sizeof other);
         CHECK(krbrelay_history_add(other, changed, sizeof changed) == KRBRELAY_OK);
-        CHECK(is_history(other, after_safe_17) == (i < sizeof safe_17 - 12));
+        CHECK(is_history(other, known[0].digest) == (i < sizeof safe_17 - 12));
     }
     memset(first, 0, sizeof first);
     memset(other, 0, sizeof other);
@@ -61,7 +44,7 @@ static void what_counts(void)
     CHECK(krbrelay_history_add(first, safe_18, sizeof safe_18) == KRBRELAY_OK);
     CHECK(krbrelay_history_add(other, safe_18, sizeof safe_18) == KRBRELAY_OK);
     CHECK(krbrelay_history_add(other, safe_17, sizeof safe_17) == KRBRELAY_OK);
-    CHECK(!is_history(first, other));
+    CHECK(memcmp(first, other, sizeof first) != 0);
 }
 
 int main(int count, char **words)

@@ -1,5 +1,6 @@
 /* Peers, and krbrelay_receiver_take_numbered: two ends of a session in both directions, what a refusal
- * by its number tells, exports, several messages in one call, and the order of the reasons. */
+ * by its number tells, exports, several messages in one call, and the order of the reasons of the calls that make a peer:
+ * that of the other calls is tested by sequences.py, and which demands a peer takes by fields.c. */
 #include "check.h"
 #include "frames.h"
 #include "krbrelay.h"
@@ -15,7 +16,7 @@ enum { ROOM = 4096, MOST = KRBRELAY_MOST_MESSAGES };
 
 static const uint8_t zeros[16];
 static const struct krbrelay_moment now = { SECS, USEC, 0 };
-static uint8_t keys[2][32], text[ROOM], some_data[ROOM];
+static uint8_t text[ROOM], some_data[ROOM];
 
 static const uint8_t *key_of(int etype) { return keys[etype - 17]; }
 
@@ -49,8 +50,7 @@ static struct krbrelay_peer peer_at(int etype, uint32_t mode, enum end end, uint
     struct krbrelay_session session = session_at(mode, end, first);
     struct krbrelay_demand demand = demand_at(end, number);
     struct krbrelay_peer peer = KRBRELAY_INIT;
-    CHECK(krbrelay_peer_new(&peer, etype, key_of(etype), key_size(etype), &session, &demand)
-          == KRBRELAY_OK);
+    IS(krbrelay_peer_new(&peer, etype, key_of(etype), key_size(etype), &session, &demand));
     CHECK(!krbrelay_peer_is_empty(&peer));
     return peer;
 }
@@ -195,8 +195,7 @@ static void reflection(int etype, uint32_t mode)
     struct message it = sealed(&client, "hi", 2);
     struct opened found = opened(&client, &it);
     CHECK(found.answer == KRBRELAY_BADADDR && is_untold(&found) && is_at(&client, 8, 7));
-    CHECK(krbrelay_peer_new(&client, etype, key_of(etype), key_size(etype), &session, &any)
-          == KRBRELAY_OK);
+    IS(krbrelay_peer_new(&client, etype, key_of(etype), key_size(etype), &session, &any));
     CHECK(opened(&client, &it).answer == KRBRELAY_OK && is_at(&client, 7, 8));
     krbrelay_peer_free(&client);
 }
@@ -432,62 +431,6 @@ static void reasons_of_makers(void)
         }
 }
 
-/* Each demand that a peer doesn't take. */
-static void demands_that_are_none(void)
-{
-    struct krbrelay_session session = session_at(KRBRELAY_PRIV, CLIENT, 0);
-    struct krbrelay_demand rows[16];
-    struct krbrelay_peer peer = KRBRELAY_INIT;
-    for (size_t i = 0; i < 16; i++)
-        rows[i] = demand_at(CLIENT, NONE_LEFT);
-    rows[0].how_number = KRBRELAY_IGNORE;
-    rows[1].how_number = KRBRELAY_IF_PRESENT;
-    rows[2].how_number = 4;
-    rows[3].number = NONE_LEFT + 1;
-    rows[4].how_time = 4;
-    rows[5].how_time = KRBRELAY_IGNORE;     /* with a skew */
-    rows[6].how_sender = 3;
-    rows[7].how_sender = KRBRELAY_IGNORE;   /* with an address */
-    rows[8].how_receiver = 3;
-    rows[9].how_receiver = KRBRELAY_IGNORE;
-    rows[10].reserved[0] = rows[11].reserved[3] = 1;
-    rows[12].sender.len = rows[13].receiver.len = 41;
-    rows[14].needs_time_or_number = 2;
-    for (size_t i = 0; i < 15; i++)
-        CHECK(krbrelay_peer_new(&peer, 17, keys[0], 16, &session, &rows[i]) == KRBRELAY_ARGUMENT);
-    CHECK(krbrelay_peer_new(&peer, 17, keys[0], 16, &session, &rows[15]) == KRBRELAY_OK);
-    krbrelay_peer_free(&peer);
-}
-
-/* Sealing. */
-static void reasons_of_sealing(void)
-{
-    static uint8_t data[KRBRELAY_USER_DATA_LIMIT + 1], frame[ROOM];
-    struct krbrelay_peer last = peer_at(17, KRBRELAY_PRIV, CLIENT, UINT32_MAX, 0);
-    struct krbrelay_peer peer = peer_at(17, KRBRELAY_PRIV, CLIENT, 7, 0), empty = KRBRELAY_INIT;
-    struct { struct krbrelay_peer *peer; struct krbrelay_moment at; size_t len, room;
-             enum krbrelay_answer answer; } rows[] = {
-        { &empty, { SECS, 1000000, 1 }, sizeof data, 0, KRBRELAY_EMPTY },
-        { &last, { SECS, 1000000, 1 }, sizeof data, 0, KRBRELAY_ARGUMENT },
-        { &last, { SECS, 1000000, 0 }, sizeof data, 0, KRBRELAY_MOMENT },
-        { &last, { SECS, 0, 0 }, sizeof data, 0, KRBRELAY_TOO_LONG },
-        { &last, { SECS, 0, 0 }, sizeof data - 1, 0, KRBRELAY_EXHAUSTED },
-        { &peer, { SECS, 0, 0 }, 2, 0, KRBRELAY_ROOM },
-        { &peer, { SECS, 0, 0 }, 2, ROOM, KRBRELAY_OK },
-    };
-    (void)sealed(&last, "hi", 2);
-    for (size_t i = 0; i < sizeof rows / sizeof rows[0]; i++) {
-        size_t size = 99;
-        frame[0] = 0xee;
-        CHECK(krbrelay_peer_seal(rows[i].peer, data, rows[i].len, &rows[i].at, zeros, frame,
-                                 rows[i].room, &size) == rows[i].answer);
-        CHECK((size == 99 && frame[0] == 0xee) == (rows[i].answer != KRBRELAY_OK));
-    }
-    CHECK(is_at(&last, NONE_LEFT, 0) && is_at(&peer, 8, 0));
-    krbrelay_peer_free(&last);
-    krbrelay_peer_free(&peer);
-}
-
 /* ---- several messages in one call */
 
 /* So many messages of rising size, each with a moment and a confounder of its own. */
@@ -564,101 +507,6 @@ static void last_numbers_of_several(int etype, uint32_t mode)
     krbrelay_peer_free(&peer);
 }
 
-/* Three messages of which the second is as a row says: each reason, in their order, and the index of that message. */
-static void reasons_of_sealing_several(void)
-{
-    static uint8_t data[KRBRELAY_USER_DATA_LIMIT + 1], frames[3 * ROOM];
-    struct krbrelay_peer last = peer_at(17, KRBRELAY_PRIV, CLIENT, UINT32_MAX, 0), empty = KRBRELAY_INIT;
-    struct krbrelay_peer peer = peer_at(17, KRBRELAY_PRIV, CLIENT, 7, 0);
-    struct krbrelay_peer single = peer_at(17, KRBRELAY_PRIV, CLIENT, 7, 0);
-    struct krbrelay_unsealed messages[3];
-    struct { struct krbrelay_peer *peer; struct krbrelay_moment at; size_t len, less;
-             enum krbrelay_answer answer; size_t failed; } rows[] = {
-        { &empty, { SECS, 1000000, 1 }, sizeof data, 1, KRBRELAY_EMPTY, 99 },
-        { &last, { SECS, 1000000, 1 }, sizeof data, 1, KRBRELAY_ARGUMENT, 1 },
-        { &last, { SECS, 1000000, 0 }, sizeof data, 1, KRBRELAY_MOMENT, 1 },
-        { &last, { SECS, 0, 0 }, sizeof data, 1, KRBRELAY_TOO_LONG, 1 },
-        { &last, { SECS, 0, 0 }, sizeof data - 1, 1, KRBRELAY_EXHAUSTED, 1 },
-        { &peer, { SECS, 0, 0 }, 2, 1, KRBRELAY_ROOM, 99 },
-        { &peer, { SECS, 0, 0 }, 2, 0, KRBRELAY_OK, 99 },
-    };
-    size_t room = 0;
-    make_messages(messages, 3);
-    messages[1].user_data = data;
-    messages[1].user_data_len = 2;
-    messages[1].at = (struct krbrelay_moment){ SECS, 0, 0 };
-    room += sealed_of(&single, &messages[0]).size;
-    room += sealed_of(&single, &messages[1]).size;
-    room += sealed_of(&single, &messages[2]).size;
-    for (size_t i = 0; i < sizeof rows / sizeof rows[0]; i++) {
-        size_t sizes[MOST] = { 99 }, failed = 99;
-        messages[1].user_data_len = rows[i].len;
-        messages[1].at = rows[i].at;
-        frames[0] = 0xee;
-        CHECK(krbrelay_peer_seal_many(rows[i].peer, messages, 3, frames, room - rows[i].less, sizes, &failed)
-              == rows[i].answer && failed == rows[i].failed);
-        CHECK((sizes[0] == 99 && frames[0] == 0xee) == (rows[i].answer != KRBRELAY_OK));
-    }
-    CHECK(is_at(&last, UINT32_MAX, 0) && is_at(&peer, 10, 0));
-    krbrelay_peer_free(&last);
-    krbrelay_peer_free(&peer);
-    krbrelay_peer_free(&single);
-}
-
-/* Over 64 messages are refused before all else, also where the handle holds nothing. */
-static void too_many_messages(void)
-{
-    static uint8_t frames[ROOM];
-    struct krbrelay_unsealed messages[MOST + 1];
-    struct krbrelay_peer peers[] = { peer_at(18, KRBRELAY_SAFE, CLIENT, 7, 9), KRBRELAY_INIT };
-    make_messages(messages, MOST + 1);
-    messages[0].at.microseconds = 1000000;
-    for (size_t i = 0; i < 2; i++) {
-        size_t sizes[MOST] = { 99 }, failed = 99;
-        CHECK(krbrelay_peer_seal_many(&peers[i], messages, MOST + 1, frames, sizeof frames, sizes, &failed)
-              == KRBRELAY_ARGUMENT);
-        CHECK(failed == 99 && sizes[0] == 99 && frames[0] == 0);
-    }
-    CHECK(is_at(&peers[0], 7, 9) && krbrelay_peer_is_empty(&peers[1]));
-    krbrelay_peer_free(&peers[0]);
-}
-
-/* Opening: the reflected message of another number, late, and so on. */
-static void reasons_of_opening(void)
-{
-    struct krbrelay_peer client = peer_at(17, KRBRELAY_SAFE, CLIENT, 7, 0), empty = KRBRELAY_INIT;
-    struct krbrelay_peer server = peer_at(17, KRBRELAY_SAFE, SERVER, 9, 7);
-    struct message back = sealed(&server, "hi", 2), early, it, long_one = back;
-    struct { struct krbrelay_peer *peer; struct krbrelay_moment at; struct message *it; size_t room;
-             enum krbrelay_answer answer; } rows[] = {
-        { &empty, { SECS + 999, 1000000, 1 }, &back, 0, KRBRELAY_EMPTY },
-        { &server, { SECS + 999, 1000000, 1 }, &back, 0, KRBRELAY_ARGUMENT },
-        { &server, { SECS + 999, 1000000, 0 }, &back, 0, KRBRELAY_MOMENT },
-        { &server, { SECS + 999, 0, 0 }, &long_one, 0, KRBRELAY_MALFORMED },
-        { &server, { SECS + 999, 0, 0 }, &back, 0, KRBRELAY_BADADDR },
-        { &server, { SECS + 999, 0, 0 }, &early, 0, KRBRELAY_SKEW },
-        { &server, { SECS, 0, 0 }, &early, 0, KRBRELAY_BADORDER },
-        { &server, { SECS, 0, 0 }, &it, 1, KRBRELAY_ROOM },
-        { &server, { SECS, 0, 0 }, &it, 2, KRBRELAY_OK },
-    };
-    it = sealed(&client, "hi", 2);
-    early = sealed(&client, "hi", 2);
-    long_one.size++;
-    for (size_t i = 0; i < sizeof rows / sizeof rows[0]; i++) {
-        struct krbrelay_carried carried = KRBRELAY_INIT;
-        size_t size = 99;
-        text[0] = 0xee;
-        CHECK(krbrelay_peer_open(rows[i].peer, rows[i].it->frame, rows[i].it->size, &rows[i].at, text,
-                                 rows[i].room, &size, &carried) == rows[i].answer);
-        CHECK((size == 99 && text[0] == 0xee) == (rows[i].answer != KRBRELAY_OK));
-        CHECK(carried.number == (rows[i].answer == KRBRELAY_OK ? 7
-                                 : rows[i].answer == KRBRELAY_BADORDER ? 8 : 0));
-    }
-    CHECK(is_at(&server, 10, 8));
-    krbrelay_peer_free(&client);
-    krbrelay_peer_free(&server);
-}
-
 /* A handle that holds nothing, which is freed twice. */
 static void nothing_held(void)
 {
@@ -701,8 +549,7 @@ static struct krbrelay_receiver receiver_at(int etype, uint32_t mode, uint64_t n
 {
     struct krbrelay_expect expect = expect_of(mode);
     struct krbrelay_receiver r = KRBRELAY_INIT;
-    CHECK(krbrelay_receiver_new(&r, etype, key_of(etype), key_size(etype), &expect, number, 0)
-          == KRBRELAY_OK);
+    IS(krbrelay_receiver_new(&r, etype, key_of(etype), key_size(etype), &expect, number, 0));
     return r;
 }
 
@@ -770,9 +617,6 @@ static void numbers_that_are_not_told(void)
 int main(int count, char **words)
 {
     check_only(1, count, words);
-    for (int i = 0; i < 16; i++)
-        keys[0][i] = (uint8_t)i;
-    memset(keys[1], 0x11, 32);
     for (size_t i = 0; i < sizeof some_data; i++)
         some_data[i] = (uint8_t)(i * 11);
     for (int etype = 17; etype <= 18; etype++)
@@ -793,11 +637,6 @@ int main(int count, char **words)
     RUN(bytes_of_exports());
     RUN(exports_that_are_none());
     RUN(reasons_of_makers());
-    RUN(demands_that_are_none());
-    RUN(reasons_of_sealing());
-    RUN(reasons_of_sealing_several());
-    RUN(too_many_messages());
-    RUN(reasons_of_opening());
     RUN(nothing_held());
     RUN(handles_that_move());
     RUN(numbers_that_are_not_told());

@@ -14,7 +14,7 @@ enum { MOST = KRBRELAY_MOST_FRAMES, ROOM = 1 << 18, SLOT = 2048, LONGEST = 10050
 
 static const struct krbrelay_moment now = { SECS, USEC, 0 };
 static const uint8_t zeros[16];
-static uint8_t keys[3][32], some_data[LONGEST];
+static uint8_t some_data[LONGEST];
 
 /* ---- an allocator that refuses */
 
@@ -67,8 +67,7 @@ static struct krbrelay_receiver receiver_at(int etype, uint32_t mode, uint64_t n
 {
     struct krbrelay_expect expect = expect_of(mode);
     struct krbrelay_receiver r = KRBRELAY_INIT;
-    CHECK(krbrelay_receiver_new(&r, etype, key_of(etype), key_size(etype), &expect, number, 0)
-          == KRBRELAY_OK);
+    IS(krbrelay_receiver_new(&r, etype, key_of(etype), key_size(etype), &expect, number, 0));
     return r;
 }
 
@@ -98,8 +97,7 @@ static void take_singly(struct krbrelay_receiver *r, const struct list *l, size_
 static void take_together(struct krbrelay_receiver *r, const struct list *l, size_t room, struct left *to)
 {
     memset(to, FILL, sizeof *to);
-    CHECK(krbrelay_receiver_take_many(r, l->frames, l->count, &now, to->bytes, room, to->taken)
-          == KRBRELAY_OK);
+    IS(krbrelay_receiver_take_many(r, l->frames, l->count, &now, to->bytes, room, to->taken));
     tell_state(r, to);
 }
 
@@ -324,8 +322,7 @@ static void refused_at(int etype, uint32_t mode, const struct list *l, long at, 
     struct krbrelay_receiver r = receiver_at(etype, mode, 7);
     memset(&told, FILL, sizeof told);
     refuse(at, and_all_after);
-    CHECK(krbrelay_receiver_take_many(&r, l->frames, l->count, &now, told.bytes, ROOM, told.taken)
-          == KRBRELAY_OK);
+    IS(krbrelay_receiver_take_many(&r, l->frames, l->count, &now, told.bytes, ROOM, told.taken));
     refuse(-1, 0);
     tell_state(&r, &told);
     is_replayed(etype, mode, l, &told);
@@ -441,10 +438,6 @@ static void room_of_each(void)
 int main(int count, char **words)
 {
     check_only(1, count, words);
-    for (int i = 0; i < 16; i++)
-        keys[0][i] = (uint8_t)i;
-    memset(keys[1], 0x11, 32);
-    memset(keys[2], 0x22, 32);
     for (size_t i = 0; i < sizeof some_data; i++)
         some_data[i] = (uint8_t)(i * 11 + i / 256);
     for (int etype = 17; etype <= 18; etype++) {

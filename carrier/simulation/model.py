@@ -1,17 +1,15 @@
 """A model of krb_engine, which is compared with the proved ends: it isn't proved, and nothing ships it.
 
 Each function is what the definition of its name in crates/krb_engine/specs says, and the classes have the
-names and calls of krbrelay.engine, with which compared.py compares them. `plants` are faults, of which the
-comparison has to find each.
+names and calls of krbrelay.engine, with which carrier/tests/test_simulation_model.py compares them. PLANTS are faults,
+of which the comparison has to find each: `planted` is one of them, or "".
 """
-import collections
 import dataclasses
 import hashlib
 from typing import Optional
 
-from ends import (
-    Asks, Command, Ended, Heard, Idle, Outcome, Probe, Publish, Read, Receipt, Row, Spot, Stands, Stored,
-    Wake)
+from krbrelay.engine import (
+    NEVER, Asks, Command, Ended, Heard, Idle, Outcome, Probe, Publish, Read, Receipt, Row, Spot, Stands, Stored, Wake)
 
 PLANTS = ("confirmations delete", "digests aren't compared", "receipts before the commit",
           "what was dropped stays", "no probes", "asks aren't heeded",
@@ -22,13 +20,8 @@ PROBE, PROBE_MOST = 5_000, 960_000
 ASK, ASK_MOST = 4_000, 64_000
 ROOM = 2_000
 RECEIPT = 200
-NEVER = 2**64 - 1
 TAG = 12                # bytes of a frame that a digest is of
-NO_HISTORY = bytes(20)
-
-
-def with_frame(history: bytes, frame: bytes) -> bytes:
-    return hashlib.sha1(history + frame[-TAG:]).digest()
+planted = ""
 
 
 @dataclasses.dataclass
@@ -49,25 +42,19 @@ class Pause:
 class Queue:
     """Sessions that wait, each once, first in and first out."""
 
-    def __init__(self, plants: frozenset[str] = frozenset()) -> None:
-        self.order: collections.deque[int] = collections.deque()
-        self.waits: set[int] = set()
-        self.plants = plants
+    def __init__(self) -> None:
+        self.order: list[int] = []
 
     def ready(self, session: int) -> None:
-        if session not in self.waits:
-            self.waits.add(session)
+        if session not in self.order:
             self.order.append(session)
 
     def serve(self) -> Optional[int]:
-        if not self.order:
-            return None
-        last = "last in, first out" in self.plants
-        session = self.order.pop() if last else self.order.popleft()
-        self.waits.discard(session)
-        return session
+        place = -1 if planted == "last in, first out" else 0
+        return self.order.pop(place) if self.order else None
 
-    def __len__(self) -> int:
+    @property
+    def size(self) -> int:
         return len(self.order)
 
 
@@ -89,15 +76,14 @@ class Flow:
 class Sending:
     """One session's end at a sender."""
 
-    def __init__(self, stored: Stored, now: int, plants: frozenset[str] = frozenset()) -> None:
+    def __init__(self, stored: Stored, now: int) -> None:
         self.next, self.carried, self.at, self.done, self.list = stored
         self.sent = self.carried
         self.recovers, self.window = self.done, WINDOW
         self.ask: Optional[Pause] = None
-        self.is_held = self.is_answered = False
         self.ended: Optional[Ended] = None
+        self.is_held = self.is_answered = False
         self.again, self.probe = Pause(now, AGAIN), Pause(now, PROBE)
-        self.plants = plants
 
     def begin_again(self) -> None:
         self.carried = self.sent = self.done
@@ -116,7 +102,7 @@ class Sending:
         self.carried, self.at = self.carried + 1, offset
         self.sent = max(self.sent, self.carried)
         self.again = Pause(now, AGAIN)
-        if "confirmations delete" in self.plants:
+        if planted == "confirmations delete":
             self.done = self.carried
         return True
 
@@ -143,7 +129,7 @@ class Sending:
             return Heard.NOTHING
         if receipt.number > self.next:
             self.ended = Ended.OLDER
-        elif own != receipt.history and "digests aren't compared" not in self.plants:
+        elif own != receipt.history and planted != "digests aren't compared":
             self.ended = Ended.FORKED
         if self.ended:
             self.sent = self.carried
@@ -162,7 +148,7 @@ class Sending:
     def is_asked(self, receipt: Receipt, now: int) -> bool:
         return receipt.asks != Asks.NOTHING and receipt.number == self.done and self.done < self.carried \
             and not self.ended and (self.ask is None or self.ask.is_over(now)) \
-            and "asks aren't heeded" not in self.plants
+            and planted != "asks aren't heeded"
 
     def heed(self, asks: Asks, now: int) -> None:
         self.recovers, self.window = max(self.recovers, self.carried), 1
@@ -182,7 +168,7 @@ class Sending:
         count = self.batch(room)
         if count > 0 and (not self.is_held or self.ask is None or self.ask.is_over(now)):
             return self.publish(count, now)
-        if self.done < self.carried and self.probe.is_over(now) and "no probes" not in self.plants:
+        if self.done < self.carried and self.probe.is_over(now) and planted != "no probes":
             opening = not self.is_answered or self.probe.length >= 4 * PROBE
             self.probe.grow(PROBE_MOST, now)
             return Probe(self.carried - 1, opening)
@@ -207,7 +193,7 @@ class Sending:
             ends.append(self.ask.end())
         if self.carried < self.sent:
             ends.append(self.again.end())
-        if self.done < self.carried and "no probes" not in self.plants:
+        if self.done < self.carried and planted != "no probes":
             ends.append(self.probe.end())
         return min(ends)
 
@@ -241,9 +227,9 @@ class Sending:
 class Receiving:
     """One session's end at a receiver."""
 
-    def __init__(self, row: Row, now: int, plants: frozenset[str] = frozenset()) -> None:
+    def __init__(self, row: Row, now: int) -> None:
         self.row = self.drafted = row
-        self.is_open, self.paid, self.plants = False, Pause(now, 0), plants
+        self.is_open, self.paid = False, Pause(now, 0)
         self.owed: Optional[Asks] = None
 
     def take(self, frame: bytes, *, accepted: bool, is_close: bool = False,
@@ -252,7 +238,7 @@ class Receiving:
         self.is_open = True
         self.owed = self.owes(outcome)
         if outcome == Outcome.ACCEPTED:
-            history = with_frame(self.drafted.history, frame)
+            history = hashlib.sha1(self.drafted.history + frame[-TAG:]).digest()
             self.drafted = Row(self.drafted.number + 1, history, is_close)
         return outcome
 
@@ -281,12 +267,12 @@ class Receiving:
         self.row, self.is_open = self.drafted, False
 
     def dropped(self) -> None:
-        if "what was dropped stays" not in self.plants:
+        if planted != "what was dropped stays":
             self.drafted, self.owed = self.row, None
         self.is_open = False
 
     def receipt(self, now: int) -> Optional[Receipt]:
-        early = "receipts before the commit" in self.plants
+        early = planted == "receipts before the commit"
         if self.owed is None or self.is_open and not early or not self.paid.is_over(now):
             return None
         asks, self.owed, self.paid = self.owed, None, Pause(now, RECEIPT)
@@ -297,9 +283,9 @@ class Receiving:
 class Reading:
     """A shard at a receiver."""
 
-    def __init__(self, stored: Spot, plants: frozenset[str] = frozenset()) -> None:
+    def __init__(self, stored: Spot) -> None:
         self.spot = self.read = stored
-        self.is_open, self.plants = False, plants
+        self.is_open = False
 
     def frames(self, list_now: int, last: int, count: int) -> Read:
         if self.is_open:
@@ -308,7 +294,7 @@ class Reading:
             self.read = Spot(list_now, 0)
             return Read.ELSEWHERE
         if last < self.read.offset:
-            if "a list that was cut off is waited for" not in self.plants:
+            if planted != "a list that was cut off is waited for":
                 self.read = Spot(list_now, last)
             return Read.ELSEWHERE
         if count == 0:
@@ -318,25 +304,3 @@ class Reading:
 
     def stored(self) -> None:
         self.spot, self.is_open = self.read, False
-
-
-class Modelled:
-    """The model's ends, with these faults."""
-
-    def __init__(self, plants: frozenset[str] = frozenset()) -> None:
-        self.plants = plants
-
-    def sending(self, stored: Stored, now: int) -> Sending:
-        return Sending(stored, now, self.plants)
-
-    def flow(self) -> Flow:
-        return Flow()
-
-    def queue(self) -> Queue:
-        return Queue(self.plants)
-
-    def receiving(self, row: Row, now: int) -> Receiving:
-        return Receiving(row, now, self.plants)
-
-    def reading(self, stored: Spot) -> Reading:
-        return Reading(stored, self.plants)

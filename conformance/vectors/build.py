@@ -3,11 +3,13 @@ from __future__ import annotations
 
 import collections
 import collections.abc
+import functools
 import gzip
 import hashlib
 import io
 import json
 import pathlib
+import tomllib
 
 from vectors.flags import FLAGS
 from vectors.groups import (addresses, checksums, ciphers, demands, faults, integers, limits, made, numbers, records,
@@ -32,8 +34,14 @@ MODULES = (valid, spelling, structure, integers, times, numbers, addresses, vers
            streams, records, limits, made)
 
 
+def table(name: str) -> dict[str, dict[str, object]]:
+    with open(ROOM / f"{name}.toml", "rb") as file:
+        return tomllib.load(file)
+
+
+@functools.cache
 def built() -> list[Group]:
-    """All groups, in their order."""
+    """All groups, in their order, which are built once."""
     Confounders.begin()
     suite = Suite()
     for module in MODULES:
@@ -91,6 +99,6 @@ def zipped(data: bytes) -> bytes:
 def released(version: str) -> dict[str, bytes]:
     """The files of a release, by their names."""
     name = f"krbrelay-{version}-vectors"
-    return {f"{name}.json.gz": zipped(text_of(built()).encode()),
+    return {f"{name}.json.gz": zipped(text_of(built.__wrapped__()).encode()),
             f"{name}.schema.json": (ROOM / SCHEMA).read_bytes(),
             f"{name}.README.md": (ROOM / "README.md").read_bytes()}

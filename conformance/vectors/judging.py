@@ -3,9 +3,9 @@ from __future__ import annotations
 
 import dataclasses
 import enum
-import tomllib
+import functools
 
-from vectors.build import ROOM
+from vectors.build import cases, table
 from vectors.model import Asked, Case, Group, Result, Step
 from vectors.readers import Implementation
 
@@ -131,14 +131,10 @@ class Known:
         return not wanted or told <= wanted
 
 
-def known_tables() -> dict[str, dict[str, object]]:
-    with open(ROOM / "known.toml", "rb") as file:
-        return tomllib.load(file)
-
-
+@functools.cache
 def known_of(of: Implementation) -> Known:
     """Of readers that have a table together, with what one of them has more."""
-    tables = known_tables()
+    tables = table("known")
     common, own = tables[of.known], tables.get(of.name, {})
     otherwise = {name.value: {**common.get(name.value, {}), **own.get(name.value, {})} for name in OTHERWISE}
     return Known({**common.get("takes", {}), **own.get("takes", {})}, otherwise, common.get("codes", {}))
@@ -146,7 +142,17 @@ def known_of(of: Implementation) -> Known:
 
 def counted_of(of: Implementation) -> dict[tuple[str, str], int] | None:
     """Of another implementation how many cases of each class and flag are known, or None."""
-    table = known_tables().get(of.name)
-    if table is None:
+    found = table("known").get(of.name)
+    if found is None:
         return None
-    return {(name, flag): count for name, flags in table["counts"].items() for flag, count in flags.items()}
+    return {(name, flag): count for name, flags in found["counts"].items() for flag, count in flags.items()}
+
+
+def is_allowed(of: Implementation, group: Group, case: Case, verdicts: list[str]) -> bool:
+    """Whether a reader may answer so, by known.toml."""
+    return known_of(of).allows(case, class_of(of, group, case, verdicts), verdicts)
+
+
+def asked_of(of: Implementation, groups: list[Group]) -> list[tuple[Group, Case]]:
+    """The cases that it can be asked."""
+    return [it for it in cases(groups) if is_asked(of, *it)]

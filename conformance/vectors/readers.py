@@ -7,10 +7,9 @@ import pathlib
 import shlex
 import subprocess
 import sys
-import tomllib
 
 from lib.build import building, c_tools
-from vectors.build import ROOM
+from vectors.build import ROOM, table
 from vectors.model import Asked, Address, Case, Group
 
 RUNNERS = ROOM / "runners"
@@ -54,10 +53,8 @@ def value_of(name: str, value: object) -> object:
 
 
 def implementations() -> dict[str, Implementation]:
-    with open(ROOM / "implementations.toml", "rb") as file:
-        tables = tomllib.load(file)
-    return {name: Implementation(name, **{key: value_of(key, value) for key, value in table.items()})
-            for name, table in tables.items()}
+    return {name: Implementation(name, **{key: value_of(key, value) for key, value in row.items()})
+            for name, row in table("implementations").items()}
 
 
 # ---- building

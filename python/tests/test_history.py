@@ -37,9 +37,6 @@ class Histories(unittest.TestCase):
 
     def test_no_digests(self):
         for digest in (b"", bytes(19), bytes(21)):
-            with self.assertRaises(ValueError):
-                History(digest)
-        with self.assertRaises(TypeError):
-            History("digest")
-        with self.assertRaises(TypeError):
-            History().add("frame")
+            self.assertRaises(ValueError, History, digest)
+        self.assertRaises(TypeError, History, "digest")
+        self.assertRaises(TypeError, History().add, "frame")

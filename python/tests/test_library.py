@@ -116,12 +116,10 @@ class Loading(unittest.TestCase):
             fake = mock.Mock(spec=list(library.CALLS))
             fake.krbrelay_version = mock.Mock(return_value=number)
             with mock.patch.object(ctypes, "CDLL", return_value=fake):
-                with self.assertRaisesRegex(krbrelay.LibraryError, f"libkrbrelay {found}"):
-                    library.load("a.so")
+                self.assertRaisesRegex(krbrelay.LibraryError, f"libkrbrelay {found}", library.load, "a.so")
 
     def test_another_library(self):
-        with self.assertRaisesRegex(krbrelay.LibraryError, "has no call krbrelay_"):
-            library.load("libc.so.6")
+        self.assertRaisesRegex(krbrelay.LibraryError, "has no call krbrelay_", library.load, "libc.so.6")
 
     def test_it_is_an_os_error(self):
         self.assertTrue(issubclass(krbrelay.LibraryError, OSError))

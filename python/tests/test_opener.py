@@ -101,17 +101,14 @@ class Unsealing(unittest.TestCase):
         frame = frame_of(KEYS[0], Mode.PRIV, b"Dhi")
         with opener_of(KEYS[0], Mode.PRIV) as opener:
             opener.wipe()
-            with self.assertRaises(krbrelay.Wiped):
-                opener.unseal(frame, 7, MICROS)
-            with self.assertRaises(krbrelay.Wiped):
-                opener.open(frame)
+            self.assertRaises(krbrelay.Wiped, opener.unseal, frame, 7, MICROS)
+            self.assertRaises(krbrelay.Wiped, opener.open, frame)
 
     def test_without_addresses(self):
         frame = frame_of(KEYS[0], Mode.PRIV, b"Dhi")
         for addresses in ({}, {"sender": SENDER}, {"receiver": RECEIVER}):
             with Opener(17, KEYS[0], mode=Mode.PRIV, **addresses) as opener:
-                with self.assertRaisesRegex(ValueError, "no sender and receiver"):
-                    opener.unseal(frame, 7, MICROS)
+                self.assertRaisesRegex(ValueError, "no sender and receiver", opener.unseal, frame, 7, MICROS)
                 self.assertEqual(opener.open(frame).user_data, b"Dhi")
 
 
@@ -204,7 +201,7 @@ class Opening(unittest.TestCase):
                     (How.REQUIRED, 300, second, 37), (How.IF_PRESENT, 300, second, 37),
                     (How.ABSENT_IS_0, 0, second, b"Dhi"), (How.ABSENT_IS_0, 0, second + 1, 37),
                     (How.ABSENT_IS_0, 1, second + 10**6, b"Dhi"),
-                    (How.ABSENT_IS_0, 1, second - 10**6, b"Dhi"),
+                    (How.ABSENT_IS_0, 1, second - 10**6, b"Dhi"), (How.ABSENT_IS_0, 1, second - 10**6 - 1, 37),
                     (How.ABSENT_IS_0, 1, second + 10**6 + 1, 37)):
                 opened = outcome(opener.open, frame, Demand(skew=skew, how_time=how), at)
                 self.assertEqual(opened if isinstance(opened, int) else opened.user_data, expected)
@@ -219,7 +216,10 @@ class Opening(unittest.TestCase):
                 (number + (0xA2,), Demand(skew=1, how_time=How.ABSENT_IS_0, **needs), None),
                 (number + time, Demand(number=0, how_number=How.ABSENT_IS_0, **needs), 41),
                 (number, Demand(number=0, how_number=How.ABSENT_IS_0, **needs), None),
-                (number + time, Demand(number=7, how_number=How.IF_PRESENT, **needs), 41)):
+                (number + time, Demand(number=7, how_number=How.IF_PRESENT, **needs), 41),
+                (number + time, Demand(skew=0, **needs), 37), (number + time, Demand(number=0, **needs), 42),
+                (number + time, Demand(sender=OTHER, **needs), 38),
+                (number + time, Demand(number=0, how_number=How.ABSENT_IS_0), None)):
             frame = frame_of(KEYS[0], Mode.SAFE, b"Dhi", 7, left_out=left_out)
             with Opener(17, KEYS[0], mode=Mode.SAFE) as opener:
                 opened = outcome(opener.open, frame, demand, MICROS)
@@ -232,12 +232,10 @@ class Opening(unittest.TestCase):
                            Demand(skew=-1), Demand(skew=0, how_time=4),
                            Demand(receiver=SENDER, how_receiver=How.ABSENT_IS_0),
                            Demand(number=7, how_number=4), Demand(number=7, how_number=0)):
-                with self.assertRaises(ValueError):
-                    opener.open(frame, demand)
+                self.assertRaises(ValueError, opener.open, frame, demand)
             for demand in (None, 7, {}, Demand(sender="10.0.0.1"), Demand(number="7"),
                            Demand(skew=1.0), Demand(receiver=(2, b""))):
-                with self.assertRaises(TypeError):
-                    opener.open(frame, demand)
+                self.assertRaises(TypeError, opener.open, frame, demand)
 
 
 class Headers(unittest.TestCase):
@@ -267,8 +265,7 @@ class Headers(unittest.TestCase):
     def test_of_no_message(self):
         frame = frame_of(KEYS[0], Mode.SAFE, b"Dhi")
         for at in range(len(frame)):
-            with self.assertRaises(reader.Malformed):
-                reader.message(frame[:at])
+            self.assertRaises(reader.Malformed, reader.message, frame[:at])
             self.assertEqual(outcome(krbrelay.message_header, frame[:at]), Code.MALFORMED)
         long = bytes(krbrelay.FRAME_LIMIT + 1)
         self.assertEqual(outcome(krbrelay.message_header, long), Code.FIELD_TOOLONG)

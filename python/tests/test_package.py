@@ -147,8 +147,7 @@ class Building(unittest.TestCase):
         with tempfile.TemporaryDirectory() as folder:
             copied = copy_to(folder)
             os.remove(os.path.join(folder, "LICENSE-MIT"))
-            with self.assertRaises(subprocess.CalledProcessError):
-                built(copied, "build_wheel")
+            self.assertRaises(subprocess.CalledProcessError, built, copied, "build_wheel")
             self.assertEqual(glob.glob(os.path.join(folder, "**", "*.whl"), recursive=True), [])
 
 

@@ -114,13 +114,11 @@ class Several(unittest.TestCase):
                 peer.seal_many([b"a", b"b", b"c"])
             with self.assertRaisesRegex(ValueError, "message 1: .* longer"):
                 peer.seal_many([b"a", bytes(krbrelay.USER_DATA_LIMIT + 1)])
-            with self.assertRaisesRegex(ValueError, "65 messages: a call seals 64 at most"):
-                peer.seal_many([b""] * 65)
+            self.assertRaisesRegex(ValueError, "65 messages: a call seals 64 at most", peer.seal_many, [b""] * 65)
             self.assertEqual(peer.numbers, Numbers(2**32 - 2, 7))
             self.assertEqual(len(peer.seal_many([b"a", b"b"])), 2)
             self.assertEqual(peer.numbers, Numbers(2**32, 7))
-        with self.assertRaises(krbrelay.Freed):
-            peer.seal_many([b"a"])
+        self.assertRaises(krbrelay.Freed, peer.seal_many, [b"a"])
 
 
 class Exports(unittest.TestCase):
@@ -147,13 +145,10 @@ class Exports(unittest.TestCase):
         good = bytes.fromhex("6b727301 0000000000000004 0000000000000008")
         for state in (b"", good[:-1], good + b"\0", b"x" + good[1:], good[:3] + b"\2" + good[4:],
                       good[:12] + b"\1" + good[13:]):
-            with self.assertRaises(ValueError):
-                peer_of(KEYS[0], Mode.PRIV, 0, 0, state=state)
+            self.assertRaises(ValueError, peer_of, KEYS[0], Mode.PRIV, 0, 0, state=state)
         for first, expected in ((4, 0), (0, 8)):
-            with self.assertRaises(ValueError):
-                peer_of(KEYS[0], Mode.PRIV, first, expected, state=good)
-        with self.assertRaises(TypeError):
-            peer_of(KEYS[0], Mode.PRIV, 0, 0, state="state")
+            self.assertRaises(ValueError, peer_of, KEYS[0], Mode.PRIV, first, expected, state=good)
+        self.assertRaises(TypeError, peer_of, KEYS[0], Mode.PRIV, 0, 0, state="state")
         with self.assertRaises(krbrelay.Exhausted):
             peer_of(KEYS[0], Mode.PRIV, 0, 0,
                     state=good[:4] + (2**32).to_bytes(8, "big") + good[12:])
@@ -231,12 +226,9 @@ class Arguments(unittest.TestCase):
                     with self.assertRaises(TypeError, msg=name):
                         krbrelay.Opener(17, KEYS[0], **{"mode": Mode.PRIV, name: value})
                 for demand in (Demand(number=value), Demand(how_number=value)):
-                    with self.assertRaises(TypeError):
-                        Peer(17, KEYS[0], mode=Mode.PRIV, sender=OTHER, demand=demand)
-                with self.assertRaises(TypeError):
-                    Receiving(Row(5), 0).take(frame, accepted=False, opened=value)
-                with self.assertRaises(TypeError):
-                    Receiving(Row(5), 0).take(frame, accepted=value)
+                    self.assertRaises(TypeError, Peer, 17, KEYS[0], mode=Mode.PRIV, sender=OTHER, demand=demand)
+                self.assertRaises(TypeError, Receiving(Row(5), 0).take, frame, accepted=False, opened=value)
+                self.assertRaises(TypeError, Receiving(Row(5), 0).take, frame, accepted=value)
                 with self.assertRaises(TypeError):
                     Flow().list = value
 
@@ -250,10 +242,8 @@ class Arguments(unittest.TestCase):
     def test_demands(self):
         for demand in (Demand(number=7, how_number=How.IF_PRESENT),
                        Demand(number=2**32 + 1)):
-            with self.assertRaises(ValueError):
-                Peer(17, KEYS[0], mode=Mode.PRIV, sender=OTHER, demand=demand)
-        with self.assertRaises(TypeError):
-            Peer(17, KEYS[0], mode=Mode.PRIV, sender=OTHER, demand=None)
+            self.assertRaises(ValueError, Peer, 17, KEYS[0], mode=Mode.PRIV, sender=OTHER, demand=demand)
+        self.assertRaises(TypeError, Peer, 17, KEYS[0], mode=Mode.PRIV, sender=OTHER, demand=None)
 
     def test_an_absent_number_is_0(self):
         frame = frame_of(KEYS[0], Mode.SAFE, b"hi", left_out=(0xA3,))

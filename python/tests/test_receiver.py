@@ -85,8 +85,7 @@ class Taking(unittest.TestCase):
         with receiver_of(KEYS[0], Mode.SAFE, 2**32) as receiver:
             self.assertEqual(receiver.state, State(2**32, False))
         for expected in (2**32 + 1, 2**64 - 1, 2**64, -1):
-            with self.assertRaises(ValueError):
-                receiver_of(KEYS[0], Mode.SAFE, expected)
+            self.assertRaises(ValueError, receiver_of, KEYS[0], Mode.SAFE, expected)
 
     def test_a_message_that_comes_back_to_its_maker(self):
         """It is refused where the ends have two addresses, or each direction a key. Where neither
@@ -136,8 +135,7 @@ class Taking(unittest.TestCase):
                          expected=7)
         frame = frame_of(KEYS[0], Mode.SAFE, b"D", sender=OTHER)
         with receiver_of(KEYS[0], Mode.SAFE) as receiver:
-            with self.assertRaises(krbrelay.Refusal):
-                receiver.take(frame, MICROS)
+            self.assertRaises(krbrelay.Refusal, receiver.take, frame, MICROS)
 
 
 class Several(unittest.TestCase):
@@ -193,15 +191,12 @@ class Several(unittest.TestCase):
         receiver = receiver_of(KEYS[0], Mode.PRIV)
         with self.assertRaisesRegex(ValueError, "65 messages: a call takes 64 at most"):
             receiver.take_many([frame] * 65, MICROS)
-        with self.assertRaises(ValueError):
-            receiver.take_many([frame], -1)
-        with self.assertRaises(TypeError):
-            receiver.take_many([frame, "text"], MICROS)
+        self.assertRaises(ValueError, receiver.take_many, [frame], -1)
+        self.assertRaises(TypeError, receiver.take_many, [frame, "text"], MICROS)
         self.assertEqual(receiver.state, State(7, False))
         self.assertEqual(receiver.take_many([bytearray(frame), memoryview(frame)], MICROS)[0], Text(b"hi"))
         receiver.free()
-        with self.assertRaises(krbrelay.Freed):
-            receiver.take_many([frame], MICROS)
+        self.assertRaises(krbrelay.Freed, receiver.take_many, [frame], MICROS)
 
 
 def drawn_frames(dice, key, mode, sealer):

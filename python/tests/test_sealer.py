@@ -30,8 +30,7 @@ class Sealing(unittest.TestCase):
         with sealer_of(KEYS[0], Mode.PRIV) as sealer:
             self.assertEqual(sealer.seal(text, MICROS, CONFOUNDER),
                              frame_of(KEYS[0], Mode.PRIV, text))
-            with self.assertRaisesRegex(ValueError, "longer"):
-                sealer.seal(text + b"\0", MICROS)
+            self.assertRaisesRegex(ValueError, "longer", sealer.seal, text + b"\0", MICROS)
             self.assertEqual(sealer.next, 8)
 
     def test_addresses(self):
@@ -62,8 +61,7 @@ class Sealing(unittest.TestCase):
         with sealer_of(KEYS[1], Mode.SAFE) as sealer:
             for record in (Text(bytes(10**6 + 1)), Batch(()), Batch((b"a",)), Batch((b"",) * 1001),
                            Batch((bytes(499_996), bytes(499_997)))):
-                with self.assertRaisesRegex(ValueError, "record"):
-                    sealer.seal_record(record, MICROS)
+                self.assertRaisesRegex(ValueError, "record", sealer.seal_record, record, MICROS)
             self.assertEqual(sealer.next, 7)
 
     def test_records_of_a_sender(self):
@@ -86,25 +84,21 @@ class Sealing(unittest.TestCase):
                 sealer.set_mode(mode)
                 self.assertEqual(sealer.seal(b"Dhi", MICROS, CONFOUNDER),
                                  frame_of(KEYS[0], Mode(mode), b"Dhi", number))
-            with self.assertRaises(ValueError):
-                sealer.set_mode(22)
+            self.assertRaises(ValueError, sealer.set_mode, 22)
 
     def test_the_last_number(self):
         with sealer_of(KEYS[0], Mode.SAFE, first=2**32 - 1) as sealer:
             self.assertEqual(sealer.seal(b"C", MICROS),
                              frame_of(KEYS[0], Mode.SAFE, b"C", 2**32 - 1))
             self.assertEqual(sealer.next, 2**32)
-            with self.assertRaisesRegex(krbrelay.Exhausted, "no sequence number is left"):
-                sealer.seal(b"C", MICROS)
+            self.assertRaisesRegex(krbrelay.Exhausted, "no sequence number is left", sealer.seal, b"C", MICROS)
 
     def test_wiping(self):
         with sealer_of(KEYS[0], Mode.PRIV) as sealer:
             sealer.wipe()
             sealer.wipe()
-            with self.assertRaisesRegex(krbrelay.Wiped, "overwritten"):
-                sealer.seal(b"hi")
-            with self.assertRaises(krbrelay.Wiped):
-                sealer.seal_record(Closed())
+            self.assertRaisesRegex(krbrelay.Wiped, "overwritten", sealer.seal, b"hi")
+            self.assertRaises(krbrelay.Wiped, sealer.seal_record, Closed())
             self.assertEqual(sealer.next, 7)
 
 
@@ -131,15 +125,12 @@ class Several(unittest.TestCase):
                 sealer.seal_many([b"a", b"b", b"c"])
             with self.assertRaisesRegex(ValueError, "message 1: .* longer"):
                 sealer.seal_many([b"a", bytes(krbrelay.USER_DATA_LIMIT + 1)])
-            with self.assertRaisesRegex(ValueError, "65 messages: a call seals 64 at most"):
-                sealer.seal_many([b""] * 65)
+            self.assertRaisesRegex(ValueError, "65 messages: a call seals 64 at most", sealer.seal_many, [b""] * 65)
             self.assertEqual(sealer.next, 2**32 - 2)
             self.assertEqual(len(sealer.seal_many([b"a", b"b"])), 2)
             sealer.wipe()
-            with self.assertRaisesRegex(krbrelay.Wiped, "message 0: "):
-                sealer.seal_many([b"a"])
-        with self.assertRaises(krbrelay.Freed):
-            sealer.seal_many([b"a"])
+            self.assertRaisesRegex(krbrelay.Wiped, "message 0: ", sealer.seal_many, [b"a"])
+        self.assertRaises(krbrelay.Freed, sealer.seal_many, [b"a"])
 
 
 class Moments(unittest.TestCase):
@@ -164,23 +155,19 @@ class Moments(unittest.TestCase):
                                 (4_102_444_800.123_456, 4_102_444_800_123_456)):
             self.assertEqual(self.sealed_at(seconds), frame_of(KEYS[0], Mode.SAFE, b"Dhi", at=micros))
         for wrong in (-0.5, 1e300, float("inf"), float("nan"), float(MICROS)):
-            with self.assertRaises(ValueError):
-                self.sealed_at(wrong)
+            self.assertRaises(ValueError, self.sealed_at, wrong)
 
     def test_no_moments(self):
         for at in (-1, 253402300800000000, 2**64, 10**30, datetime.datetime(2023, 11, 14),
                    datetime.datetime(1969, 12, 31, tzinfo=datetime.timezone.utc)):
-            with self.assertRaises(ValueError):
-                self.sealed_at(at)
+            self.assertRaises(ValueError, self.sealed_at, at)
         for at in ("now", b"", (1, 2), 1j):
-            with self.assertRaises(TypeError):
-                self.sealed_at(at)
+            self.assertRaises(TypeError, self.sealed_at, at)
 
     def test_an_int_of_other_units(self):
         """time.time_ns() is over the year 9999, and seconds and milliseconds are no microseconds."""
         for at in (1, int(time.time()), int(time.time() * 1000), time.time_ns(), 10**14 - 1):
-            with self.assertRaises(ValueError):
-                self.sealed_at(at)
+            self.assertRaises(ValueError, self.sealed_at, at)
         with self.assertRaisesRegex(ValueError, "an int is microseconds, .*; seconds are a float"):
             self.sealed_at(int(time.time()))
         for at in (0, 10**14):
@@ -250,8 +237,6 @@ class Confounders(unittest.TestCase):
                                  frame_of(KEYS[1], Mode.PRIV, b"hi"))
         with sealer_of(KEYS[1], Mode.PRIV) as sealer:
             for size in (0, 1, 15, 17, 1000):
-                with self.assertRaisesRegex(ValueError, "confounder"):
-                    sealer.seal(b"hi", MICROS, bytes(size))
+                self.assertRaisesRegex(ValueError, "confounder", sealer.seal, b"hi", MICROS, bytes(size))
             for confounder in (16, "x" * 16, [0] * 16):
-                with self.assertRaises(TypeError):
-                    sealer.seal(b"hi", MICROS, confounder)
+                self.assertRaises(TypeError, sealer.seal, b"hi", MICROS, confounder)

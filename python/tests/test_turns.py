@@ -143,8 +143,7 @@ class Values(unittest.TestCase):
     def test_none_is_copied(self):
         for value in values():
             for copies in (copy.copy, copy.deepcopy, pickle.dumps):
-                with self.assertRaisesRegex(TypeError, "can't be copied or pickled"):
-                    copies(value)
+                self.assertRaisesRegex(TypeError, "can't be copied or pickled", copies, value)
 
     def test_threads_lose_no_call(self):
         each, count = 10_000, 4

@@ -15,8 +15,7 @@ class Addresses(unittest.TestCase):
         self.assertEqual(Address.ip("2001:db8::1"),
                          Address(24, bytes.fromhex("20010db8000000000000000000000001")))
         for text in ("", "10.0.0", "10.0.0.256", "host"):
-            with self.assertRaises(ValueError):
-                Address.ip(text)
+            self.assertRaises(ValueError, Address.ip, text)
 
     def test_as_texts(self):
         self.assertEqual(str(SENDER), "10.0.0.1")
@@ -28,11 +27,9 @@ class Addresses(unittest.TestCase):
         for kind in (-2**31, 2**31 - 1):
             self.assertEqual(Address(kind, bytearray(40)), Address(kind, bytes(40)))
         for kind, data in ((2**31, b""), (-2**31 - 1, b""), (2, bytes(41))):
-            with self.assertRaises(ValueError):
-                Address(kind, data)
+            self.assertRaises(ValueError, Address, kind, data)
         for kind, data in ((2.0, b""), ("2", b""), (2, "10.0.0.1"), (2, 4), (2, None)):
-            with self.assertRaises(TypeError):
-                Address(kind, data)
+            self.assertRaises(TypeError, Address, kind, data)
 
     def test_they_are_values(self):
         self.assertEqual({Address.ip("10.0.0.1"): 1}[SENDER], 1)
@@ -57,8 +54,7 @@ class Answers(unittest.TestCase):
     def test_no_answers(self):
         for answer in (-1, 4, 919, 2**32, 2**32 + 42):
             for call in (krbrelay.answer_name, krbrelay.answer_text):
-                with self.assertRaises(ValueError):
-                    call(answer)
+                self.assertRaises(ValueError, call, answer)
 
     def test_exceptions(self):
         from krbrelay.errors import exception_of
@@ -144,8 +140,7 @@ class WrongArguments(unittest.TestCase):
     def test_addresses(self):
         for address in ("10.0.0.1", b"\n\0\0\1", (2, b"\n\0\0\1"), 7):
             self.assert_raises(TypeError, sender=address)
-            with self.assertRaises(TypeError):
-                Opener(17, KEYS[0], mode=Mode.SAFE, sender=SENDER, receiver=address)
+            self.assertRaises(TypeError, Opener, 17, KEYS[0], mode=Mode.SAFE, sender=SENDER, receiver=address)
 
     def test_numbers(self):
         for first in (-1, 2**32, 2**64 + 7):
@@ -175,8 +170,7 @@ class WrongArguments(unittest.TestCase):
     def test_the_senders_address_is_needed(self):
         for kind, more in self.KINDS:
             if kind is not Opener:
-                with self.assertRaises(TypeError):
-                    kind(17, KEYS[0], mode=Mode.SAFE, sender=None, **more)
+                self.assertRaises(TypeError, kind, 17, KEYS[0], mode=Mode.SAFE, sender=None, **more)
 
 
 class Keys(unittest.TestCase):

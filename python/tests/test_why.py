@@ -178,8 +178,7 @@ class Captures(unittest.TestCase):
         self.assertEqual(self.found(pcap(101, others)), [])
         self.assertEqual(self.found(pcap(147, [ipv4(17, udp(self.PRIV))])), [])
         for wrong in (pcap(1, [])[:20], b"\xd4\xc3\xb2\xa1", pcapng([])[:28] + bytes(12)):
-            with self.assertRaises(captures.NoCapture):
-                why.places_of(wrong, "", False)
+            self.assertRaises(captures.NoCapture, why.places_of, wrong, "", False)
 
     def test_a_capture_that_is_still_written(self):
         for made in (lambda packets: pcap(101, packets), pcapng):

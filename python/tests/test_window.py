@@ -41,14 +41,10 @@ class Windows(unittest.TestCase):
 
     def test_arguments(self):
         for number in (-1, 2**64):
-            with self.assertRaises(ValueError):
-                Window(number)
-            with self.assertRaises(ValueError):
-                Window().take(number)
-            with self.assertRaises(ValueError):
-                Window.of(Taken(0, number))
-        with self.assertRaises(TypeError):
-            Window().take("7")
+            self.assertRaises(ValueError, Window, number)
+            self.assertRaises(ValueError, Window().take, number)
+            self.assertRaises(ValueError, Window.of, Taken(0, number))
+        self.assertRaises(TypeError, Window().take, "7")
 
 
 if __name__ == "__main__":

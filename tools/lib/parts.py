@@ -212,7 +212,7 @@ QUICK = [
 
 # What tools are for, in the order of the table. Those that aren't named check something.
 VERBS = {
-    "run": ("krbrelay", "relay", "show", "picture", "check_job", "conformance/run"),
+    "run": ("krbrelay", "relay", "show", "picture", "check_job"),
     "make": ("install", "c/library", "c/dist", "debian", "release", "reference", "figure"),
     "prove": ("test", "proving.py", "wrong_bodies"),
     "bench": ("bench", "bench_aes", "bench_lane", "tests/job_costs"),

@@ -7,28 +7,31 @@
 #include <sys/socket.h>
 #include <netinet/in.h>
 
+/* Each call, upon `given`, `told` and `handles`: CALL answers as it does, DOES is of one that answers nothing, SAYS of one
+ * that has to say this, and REFUSES of one upon a handle that holds nothing. */
+#define FUNCTION(name) static uint32_t name(void)
+#define CALL(name, ...) FUNCTION(name) { return krbrelay_##name(__VA_ARGS__); }
+#define DOES(name, ...) FUNCTION(name) { krbrelay_##name(__VA_ARGS__); return KRBRELAY_OK; }
+#define SAYS(name, wanted, ...) \
+    FUNCTION(name) { return krbrelay_##name(__VA_ARGS__) wanted ? KRBRELAY_OK : KRBRELAY_ARGUMENT; }
+#define REFUSES(name, ...) \
+    FUNCTION(name) { return krbrelay_##name(__VA_ARGS__) == KRBRELAY_ARGUMENT ? KRBRELAY_OK : KRBRELAY_EMPTY; }
+#define IS_EMPTY(kind) \
+    FUNCTION(kind##_is_empty) { return krbrelay_##kind##_is_empty(&handles.kind) ? KRBRELAY_EMPTY : KRBRELAY_OK; }
+#define SEVERAL(name, kind) \
+    FUNCTION(name) \
+    { \
+        make_several(); \
+        return told_of_several(krbrelay_##name(&handles.kind, several.all, given.messages, out, given.room, \
+                                               several.sizes, &several.failed)); \
+    }
+
 /* ---- the calls that make a handle */
 
-static uint32_t sealer_new(void)
-{
-    return krbrelay_sealer_new(&handles.sealer, given.etype, key, given.key_len, &given.session);
-}
-
-static uint32_t opener_new(void)
-{
-    return krbrelay_opener_new(&handles.opener, given.etype, key, given.key_len, &given.expect);
-}
-
-static uint32_t receiver_new(void)
-{
-    return krbrelay_receiver_new(&handles.receiver, given.etype, key, given.key_len, &given.expect,
-                                 given.expected, given.closed);
-}
-
-static uint32_t peer_new(void)
-{
-    return krbrelay_peer_new(&handles.peer, given.etype, key, given.key_len, &given.session, &given.demand);
-}
+CALL(sealer_new, &handles.sealer, given.etype, key, given.key_len, &given.session)
+CALL(opener_new, &handles.opener, given.etype, key, given.key_len, &given.expect)
+CALL(receiver_new, &handles.receiver, given.etype, key, given.key_len, &given.expect, given.expected, given.closed)
+CALL(peer_new, &handles.peer, given.etype, key, given.key_len, &given.session, &given.demand)
 
 static uint32_t peer_resume(void)
 {
@@ -42,17 +45,9 @@ static uint32_t peer_resume(void)
 
 /* ---- those that seal */
 
-static uint32_t sealer_seal(void)
-{
-    return krbrelay_sealer_seal(&handles.sealer, given.body, given.body_len, &given.at, confounder, out,
-                                given.room, &told.size);
-}
-
-static uint32_t sealer_seal_record(void)
-{
-    return krbrelay_sealer_seal_record(&handles.sealer, given.kind, given.body, given.body_len, &given.at,
-                                       confounder, out, given.room, &told.size);
-}
+CALL(sealer_seal, &handles.sealer, given.body, given.body_len, &given.at, confounder, out, given.room, &told.size)
+CALL(sealer_seal_record, &handles.sealer, given.kind, given.body, given.body_len, &given.at, confounder, out,
+     given.room, &told.size)
 
 /* Several messages, all alike, and what the calls that seal them tell. */
 static struct { struct krbrelay_unsealed all[KRBRELAY_MOST_MESSAGES]; size_t sizes[KRBRELAY_MOST_MESSAGES], failed; } several;
@@ -74,63 +69,18 @@ static uint32_t told_of_several(uint32_t answer)
     return answer;
 }
 
-static uint32_t sealer_seal_many(void)
-{
-    make_several();
-    return told_of_several(krbrelay_sealer_seal_many(&handles.sealer, several.all, given.messages, out, given.room,
-                                                     several.sizes, &several.failed));
-}
-
-static uint32_t peer_seal(void)
-{
-    return krbrelay_peer_seal(&handles.peer, given.body, given.body_len, &given.at, confounder, out,
-                              given.room, &told.size);
-}
-
-static uint32_t peer_seal_many(void)
-{
-    make_several();
-    return told_of_several(krbrelay_peer_seal_many(&handles.peer, several.all, given.messages, out, given.room,
-                                                   several.sizes, &several.failed));
-}
-
-static uint32_t sealer_seal_now(void)
-{
-    return krbrelay_sealer_seal_now(&handles.sealer, given.body, given.body_len, out, given.room, &told.size);
-}
-
-static uint32_t sealer_seal_record_now(void)
-{
-    return krbrelay_sealer_seal_record_now(&handles.sealer, given.kind, given.body, given.body_len, out,
-                                           given.room, &told.size);
-}
-
-static uint32_t peer_seal_now(void)
-{
-    return krbrelay_peer_seal_now(&handles.peer, given.body, given.body_len, out, given.room, &told.size);
-}
-
-static uint32_t sealer_seal_many_now(void)
-{
-    make_several();
-    return told_of_several(krbrelay_sealer_seal_many_now(&handles.sealer, several.all, given.messages, out,
-                                                         given.room, several.sizes, &several.failed));
-}
-
-static uint32_t peer_seal_many_now(void)
-{
-    make_several();
-    return told_of_several(krbrelay_peer_seal_many_now(&handles.peer, several.all, given.messages, out, given.room,
-                                                       several.sizes, &several.failed));
-}
+SEVERAL(sealer_seal_many, sealer)
+CALL(peer_seal, &handles.peer, given.body, given.body_len, &given.at, confounder, out, given.room, &told.size)
+SEVERAL(peer_seal_many, peer)
+CALL(sealer_seal_now, &handles.sealer, given.body, given.body_len, out, given.room, &told.size)
+CALL(sealer_seal_record_now, &handles.sealer, given.kind, given.body, given.body_len, out, given.room, &told.size)
+CALL(peer_seal_now, &handles.peer, given.body, given.body_len, out, given.room, &told.size)
+SEVERAL(sealer_seal_many_now, sealer)
+SEVERAL(peer_seal_many_now, peer)
 
 /* ---- those that open */
 
-static uint32_t opener_unseal(void)
-{
-    return krbrelay_opener_unseal(&handles.opener, frame, given.frame_len, given.number, &given.at, out,
-                                  given.room, &told.size);
-}
+CALL(opener_unseal, &handles.opener, frame, given.frame_len, given.number, &given.at, out, given.room, &told.size)
 
 /* The frame's own bytes are the buffer: they are put into `out`, and taken out again where they stay. */
 static uint32_t opener_unseal_in_place(void)
@@ -146,23 +96,11 @@ static uint32_t opener_unseal_in_place(void)
     return answer;
 }
 
-static uint32_t opener_open(void)
-{
-    return krbrelay_opener_open(&handles.opener, frame, given.frame_len, &given.demand, &given.at, out,
-                                given.room, &told.size, &told.carried);
-}
-
-static uint32_t receiver_take(void)
-{
-    return krbrelay_receiver_take(&handles.receiver, frame, given.frame_len, &given.at, &told.kind, out,
-                                  given.room, &told.size);
-}
-
-static uint32_t receiver_take_numbered(void)
-{
-    return krbrelay_receiver_take_numbered(&handles.receiver, frame, given.frame_len, &given.at, &told.kind,
-                                           out, given.room, &told.size, &told.number);
-}
+CALL(opener_open, &handles.opener, frame, given.frame_len, &given.demand, &given.at, out, given.room, &told.size,
+     &told.carried)
+CALL(receiver_take, &handles.receiver, frame, given.frame_len, &given.at, &told.kind, out, given.room, &told.size)
+CALL(receiver_take_numbered, &handles.receiver, frame, given.frame_len, &given.at, &told.kind, out, given.room,
+     &told.size, &told.number)
 
 /* One frame, whose answer counts where the call has none of its own. */
 static uint32_t receiver_take_many(void)
@@ -176,120 +114,58 @@ static uint32_t receiver_take_many(void)
     return answer == KRBRELAY_OK ? taken[0].answer : answer;
 }
 
-static uint32_t peer_open(void)
-{
-    return krbrelay_peer_open(&handles.peer, frame, given.frame_len, &given.at, out, given.room, &told.size,
-                              &told.carried);
-}
-
-static uint32_t message_header(void)
-{
-    return krbrelay_message_header(frame, given.frame_len, &told.header);
-}
+CALL(peer_open, &handles.peer, frame, given.frame_len, &given.at, out, given.room, &told.size, &told.carried)
+CALL(message_header, frame, given.frame_len, &told.header)
 
 /* ---- those that ask the allocator for nothing */
 
-static uint32_t sealer_next(void) { return krbrelay_sealer_next(&handles.sealer, &told.next); }
-static uint32_t sealer_set_mode(void) { return krbrelay_sealer_set_mode(&handles.sealer, given.mode); }
-static uint32_t peer_export(void) { return krbrelay_peer_export(&handles.peer, told.state); }
-static uint32_t version(void) { return krbrelay_version() == KRBRELAY_VERSION ? KRBRELAY_OK : KRBRELAY_ARGUMENT; }
-static uint32_t now(void) { return krbrelay_now(&given.at); }
-
-static uint32_t sealer_frame_size(void)
-{
-    return krbrelay_sealer_frame_size(&handles.sealer, given.body_len, &given.at, &told.size);
-}
-
-static uint32_t receiver_state(void)
-{
-    return krbrelay_receiver_state(&handles.receiver, &told.number, &told.closed);
-}
-
-static uint32_t peer_state(void) { return krbrelay_peer_state(&handles.peer, &told.next, &told.number); }
-
-static uint32_t answer_name(void)
-{
-    return krbrelay_answer_name(KRBRELAY_BADORDER, (char *)out, given.room, &told.size);
-}
-
-static uint32_t answer_text(void)
-{
-    return krbrelay_answer_text(KRBRELAY_BADORDER, (char *)out, given.room, &told.size);
-}
-
-static uint32_t frame_size(void)
-{
-    return krbrelay_frame_size(given.body_len) >= given.body_len ? KRBRELAY_OK : KRBRELAY_TOO_LONG;
-}
-
-static uint32_t sealer_wipe(void) { krbrelay_sealer_wipe(&handles.sealer); return KRBRELAY_OK; }
-static uint32_t opener_wipe(void) { krbrelay_opener_wipe(&handles.opener); return KRBRELAY_OK; }
-static uint32_t sealer_free(void) { krbrelay_sealer_free(&handles.sealer); return KRBRELAY_OK; }
-static uint32_t opener_free(void) { krbrelay_opener_free(&handles.opener); return KRBRELAY_OK; }
-static uint32_t receiver_free(void) { krbrelay_receiver_free(&handles.receiver); return KRBRELAY_OK; }
-static uint32_t peer_free(void) { krbrelay_peer_free(&handles.peer); return KRBRELAY_OK; }
-static uint32_t clear_stack(void) { krbrelay_clear_stack(); return KRBRELAY_OK; }
+CALL(sealer_next, &handles.sealer, &told.next)
+CALL(sealer_set_mode, &handles.sealer, given.mode)
+CALL(peer_export, &handles.peer, told.state)
+SAYS(version, == KRBRELAY_VERSION, )
+CALL(now, &given.at)
+CALL(sealer_frame_size, &handles.sealer, given.body_len, &given.at, &told.size)
+CALL(receiver_state, &handles.receiver, &told.number, &told.closed)
+CALL(peer_state, &handles.peer, &told.next, &told.number)
+CALL(answer_name, KRBRELAY_BADORDER, (char *)out, given.room, &told.size)
+CALL(answer_text, KRBRELAY_BADORDER, (char *)out, given.room, &told.size)
+SAYS(frame_size, >= given.body_len, given.body_len)
+DOES(sealer_wipe, &handles.sealer)
+DOES(opener_wipe, &handles.opener)
+DOES(sealer_free, &handles.sealer)
+DOES(opener_free, &handles.opener)
+DOES(receiver_free, &handles.receiver)
+DOES(peer_free, &handles.peer)
+DOES(clear_stack, )
 static uint32_t is_supported(void) { return krbrelay_is_supported() ? KRBRELAY_OK : KRBRELAY_PROCESSOR; }
-static uint32_t is_refusal(void) { return krbrelay_is_refusal(KRBRELAY_BADORDER) ? KRBRELAY_OK : KRBRELAY_ARGUMENT; }
+SAYS(is_refusal, != 0, KRBRELAY_BADORDER)
 static uint32_t text_of(void) { return krbrelay_strerror(KRBRELAY_BADORDER) != NULL ? KRBRELAY_OK : KRBRELAY_ARGUMENT; }
-
-static uint32_t class_of(void)
-{
-    return krbrelay_class_of(KRBRELAY_BADORDER) == KRBRELAY_CLASS_REFUSAL ? KRBRELAY_OK : KRBRELAY_ARGUMENT;
-}
-
-static uint32_t sealer_is_empty(void) { return krbrelay_sealer_is_empty(&handles.sealer) ? KRBRELAY_EMPTY : KRBRELAY_OK; }
-static uint32_t opener_is_empty(void) { return krbrelay_opener_is_empty(&handles.opener) ? KRBRELAY_EMPTY : KRBRELAY_OK; }
-static uint32_t receiver_is_empty(void) { return krbrelay_receiver_is_empty(&handles.receiver) ? KRBRELAY_EMPTY : KRBRELAY_OK; }
-static uint32_t peer_is_empty(void) { return krbrelay_peer_is_empty(&handles.peer) ? KRBRELAY_EMPTY : KRBRELAY_OK; }
-
-static uint32_t check_session(void) { return krbrelay_check_session(&given.session); }
-static uint32_t check_expect(void) { return krbrelay_check_expect(&given.expect); }
-static uint32_t check_demand(void) { return krbrelay_check_demand(&given.demand); }
-static uint32_t check_peer_demand(void) { return krbrelay_check_peer_demand(&given.demand); }
+SAYS(class_of, == KRBRELAY_CLASS_REFUSAL, KRBRELAY_BADORDER)
+IS_EMPTY(sealer)
+IS_EMPTY(opener)
+IS_EMPTY(receiver)
+IS_EMPTY(peer)
+CALL(check_session, &given.session)
+CALL(check_expect, &given.expect)
+CALL(check_demand, &given.demand)
+CALL(check_peer_demand, &given.demand)
 static uint32_t field_name(void) { return strcmp(krbrelay_field_name(KRBRELAY_FIELD_MODE), "mode") == 0 ? KRBRELAY_OK : KRBRELAY_ARGUMENT; }
 
-static uint32_t address_from(void)
-{
-    struct sockaddr_in from = { .sin_family = AF_INET };
-    struct krbrelay_address to;
-    return krbrelay_address_from(&to, (const struct sockaddr *)&from, sizeof from);
-}
-
-static uint32_t batch_add(void)
-{
-    size_t size = 0;
-    return krbrelay_batch_add(out, given.room, &size, given.body, given.body_len);
-}
-
-static uint32_t batch_next(void)
-{
-    static const uint8_t batch[] = { 0, 0, 0, 1, 'x' };
-    const uint8_t *text;
-    size_t at = 0, len;
-    return krbrelay_batch_next(batch, sizeof batch, &at, &text, &len);
-}
-
-static uint32_t progress_new(void)
-{
-    struct krbrelay_progress it;
-    return krbrelay_progress_new(&it, 9, 7, 5);
-}
+CALL(address_from, &(struct krbrelay_address){ 0 },
+     (const struct sockaddr *)&(struct sockaddr_in){ .sin_family = AF_INET }, sizeof(struct sockaddr_in))
+CALL(batch_add, out, given.room, &(size_t){ 0 }, given.body, given.body_len)
+CALL(batch_next, (const uint8_t[]){ 0, 0, 0, 1, 'x' }, 5, &(size_t){ 0 }, &(const uint8_t *){ NULL }, &(size_t){ 0 })
+CALL(progress_new, &(struct krbrelay_progress){ 0 }, 9, 7, 5)
 
 static struct krbrelay_progress progress = { 9, 7, 5, 7 };
-static uint32_t progress_store(void) { return krbrelay_progress_store(&progress, 1); }
-static uint32_t progress_publish(void) { return krbrelay_progress_publish(&progress, 0); }
-static uint32_t progress_confirm(void) { return krbrelay_progress_confirm(&progress, 0, 0, &told.kind); }
-static uint32_t progress_rewind(void) { return krbrelay_progress_rewind(&progress, &told.number); }
-
-static uint32_t history_add(void)
-{
-    uint8_t history[KRBRELAY_HISTORY_SIZE] = { 0 };
-    return krbrelay_history_add(history, given.body, given.body_len);
-}
+CALL(progress_store, &progress, 1)
+CALL(progress_publish, &progress, 0)
+CALL(progress_confirm, &progress, 0, 0, &told.kind)
+CALL(progress_rewind, &progress, &told.number)
+CALL(history_add, (uint8_t[KRBRELAY_HISTORY_SIZE]){ 0 }, given.body, given.body_len)
 
 static struct krbrelay_window window;
-static uint32_t window_new(void) { krbrelay_window_new(&window, NUMBER); return KRBRELAY_OK; }
+DOES(window_new, &window, NUMBER)
 
 static uint32_t window_take(void)
 {
@@ -308,76 +184,30 @@ static struct krbrelay_queue none_wait;
 static struct krbrelay_lane no_sessions;
 static struct krbrelay_shard no_shard;
 
-static uint32_t sending_load(void)
-{
-    struct krbrelay_sending it;
-    return krbrelay_sending_load(&it, 9, 7, 5, 7, 1, 0);
-}
-
-static uint32_t sending_sealed(void) { return krbrelay_sending_sealed(&sending, 0); }
-static uint32_t sending_confirmed(void) { return krbrelay_sending_confirmed(&sending, 0, 0, 0, &told.kind); }
-static uint32_t sending_listed(void) { return krbrelay_sending_listed(&sending, 0, &told.kind); }
-static uint32_t sending_reconnected(void) { return krbrelay_sending_reconnected(&sending); }
-
-static uint32_t sending_receipt(void)
-{
-    static const struct krbrelay_receipt it = { .number = 7, .asks = KRBRELAY_ASKS_NOTHING };
-    return krbrelay_sending_receipt(&sending, &it, it.history, 0, &told.kind);
-}
-
-static uint32_t sending_serve(void)
-{
-    struct krbrelay_command command;
-    return krbrelay_sending_serve(&sending, 0, 0, &command);
-}
-
-static uint32_t sending_state(void)
-{
-    uint64_t under_way, room;
-    uint32_t settled, stands;
-    return krbrelay_sending_state(&sending, &under_way, &room, &settled, &stands);
-}
-
-static uint32_t flow_room(void) { return krbrelay_flow_room(&flow, &told.number); }
-static uint32_t flow_moved(void) { return krbrelay_flow_moved(&flow, 0, 0); }
-
-static uint32_t receiving_load(void)
-{
-    static const struct krbrelay_row row;
-    krbrelay_receiving_load(&receiving, &row, 0);
-    return KRBRELAY_OK;
-}
-
-static uint32_t receiving_take(void)
-{
-    static const struct krbrelay_seen seen = { .accepted = 1 };
-    return krbrelay_receiving_take(&receiving, given.body, given.body_len, &seen, &told.kind);
-}
-
-static uint32_t receiving_stored(void) { return krbrelay_receiving_stored(&receiving); }
-static uint32_t receiving_dropped(void) { return krbrelay_receiving_dropped(&receiving); }
-
-static uint32_t receiving_receipt(void)
-{
-    struct krbrelay_receipt it;
-    return krbrelay_receiving_receipt(&receiving, 0, &it);
-}
-
-static uint32_t reading_load(void) { krbrelay_reading_load(&reading, 0, 0); return KRBRELAY_OK; }
-static uint32_t reading_frames(void) { return krbrelay_reading_frames(&reading, 0, 0, 0, &told.kind); }
-static uint32_t reading_stored(void) { return krbrelay_reading_stored(&reading); }
-
-static uint32_t judge(void)
-{
-    static const struct krbrelay_head head;
-    static const struct krbrelay_opening opening = { .turn = 1 };
-    return krbrelay_judge(&head, &opening, &told.kind);
-}
-
-static uint32_t pause_begin(void) { krbrelay_pause_begin(&pause, 1, 0); return KRBRELAY_OK; }
-static uint32_t pause_is_over(void) { return krbrelay_pause_is_over(&pause, UINT64_MAX) == 1 ? KRBRELAY_OK : KRBRELAY_ARGUMENT; }
-static uint32_t pause_end(void) { return krbrelay_pause_end(&pause) < 9 ? KRBRELAY_OK : KRBRELAY_ARGUMENT; }
-static uint32_t pause_grow(void) { krbrelay_pause_grow(&pause, 1, 0); return KRBRELAY_OK; }
+CALL(sending_load, &(struct krbrelay_sending){ .done = 0 }, 9, 7, 5, 7, 1, 0)
+CALL(sending_sealed, &sending, 0)
+CALL(sending_confirmed, &sending, 0, 0, 0, &told.kind)
+CALL(sending_listed, &sending, 0, &told.kind)
+CALL(sending_reconnected, &sending)
+CALL(sending_receipt, &sending, &(struct krbrelay_receipt){ .number = 7, .asks = KRBRELAY_ASKS_NOTHING },
+     (const uint8_t[KRBRELAY_HISTORY_SIZE]){ 0 }, 0, &told.kind)
+CALL(sending_serve, &sending, 0, 0, &(struct krbrelay_command){ 0 })
+CALL(sending_state, &sending, &(uint64_t){ 0 }, &(uint64_t){ 0 }, &(uint32_t){ 0 }, &(uint32_t){ 0 })
+CALL(flow_room, &flow, &told.number)
+CALL(flow_moved, &flow, 0, 0)
+DOES(receiving_load, &receiving, &(struct krbrelay_row){ 0 }, 0)
+CALL(receiving_take, &receiving, given.body, given.body_len, &(struct krbrelay_seen){ .accepted = 1 }, &told.kind)
+CALL(receiving_stored, &receiving)
+CALL(receiving_dropped, &receiving)
+CALL(receiving_receipt, &receiving, 0, &(struct krbrelay_receipt){ 0 })
+DOES(reading_load, &reading, 0, 0)
+CALL(reading_frames, &reading, 0, 0, 0, &told.kind)
+CALL(reading_stored, &reading)
+CALL(judge, &(struct krbrelay_head){ 0 }, &(struct krbrelay_opening){ .turn = 1 }, &told.kind)
+DOES(pause_begin, &pause, 1, 0)
+SAYS(pause_is_over, == 1, &pause, UINT64_MAX)
+SAYS(pause_end, < 9, &pause)
+DOES(pause_grow, &pause, 1, 0)
 
 /* Of a queue of its own, which asks for its blocks. */
 static uint32_t queue_ready(void)
@@ -407,36 +237,17 @@ static uint32_t lane_listed(void)
 }
 
 /* Of one without a session: they refuse, and ask for nothing. */
-static uint32_t refuses(enum krbrelay_answer answer) { return answer == KRBRELAY_ARGUMENT ? KRBRELAY_OK : KRBRELAY_EMPTY; }
-static uint32_t lane_session(void) { return refuses(krbrelay_lane_session(&no_sessions, 0, &sending)); }
-static uint32_t lane_sealed(void) { return refuses(krbrelay_lane_sealed(&no_sessions, 0, 1)); }
-static uint32_t lane_confirmed(void) { return refuses(krbrelay_lane_confirmed(&no_sessions, 0, 0, 1, 0, &told.kind)); }
-static uint32_t lane_stop(void) { return refuses(krbrelay_lane_stop(&no_sessions, 0)); }
-static uint32_t lane_release(void) { return refuses(krbrelay_lane_release(&no_sessions, 0)); }
-static uint32_t lane_free(void) { krbrelay_lane_free(&no_sessions); return KRBRELAY_OK; }
-
-static uint32_t lane_reload(void)
-{
-    static const struct krbrelay_stored row;
-    return refuses(krbrelay_lane_reload(&no_sessions, 0, &row, 0));
-}
-
-static uint32_t lane_receipt(void)
-{
-    static const struct krbrelay_receipt it = { .asks = KRBRELAY_ASKS_NOTHING };
-    return refuses(krbrelay_lane_receipt(&no_sessions, 0, &it, it.history, KRBRELAY_OWN_UNKNOWN, 0, &told.kind));
-}
-
-static uint32_t lane_turn(void)
-{
-    struct krbrelay_served served;
-    return krbrelay_lane_turn(&no_sessions, 0, &served) == 0 ? KRBRELAY_OK : KRBRELAY_ARGUMENT;
-}
-
-static uint32_t lane_next_time(void)
-{
-    return krbrelay_lane_next_time(&no_sessions) == UINT64_MAX ? KRBRELAY_OK : KRBRELAY_ARGUMENT;
-}
+REFUSES(lane_session, &no_sessions, 0, &sending)
+REFUSES(lane_sealed, &no_sessions, 0, 1)
+REFUSES(lane_confirmed, &no_sessions, 0, 0, 1, 0, &told.kind)
+REFUSES(lane_stop, &no_sessions, 0)
+REFUSES(lane_release, &no_sessions, 0)
+DOES(lane_free, &no_sessions)
+REFUSES(lane_reload, &no_sessions, 0, &(struct krbrelay_stored){ 0 }, 0)
+REFUSES(lane_receipt, &no_sessions, 0, &(struct krbrelay_receipt){ .asks = KRBRELAY_ASKS_NOTHING },
+        (const uint8_t[KRBRELAY_HISTORY_SIZE]){ 0 }, KRBRELAY_OWN_UNKNOWN, 0, &told.kind)
+SAYS(lane_turn, == 0, &no_sessions, 0, &(struct krbrelay_served){ .place = 0 })
+SAYS(lane_next_time, == UINT64_MAX, &no_sessions)
 
 /* Of a shard of its own, which asks for its block. */
 static uint32_t shard_new(void)
@@ -480,35 +291,25 @@ static uint32_t shard_take(void)
 }
 
 /* Of a handle without one: they refuse, and ask for nothing. */
-static uint32_t shard_loaded(void) { return refuses(krbrelay_shard_loaded(&no_shard, 0, 0)); }
-static uint32_t shard_listed(void) { return refuses(krbrelay_shard_listed(&no_shard, 0, 0, &told.kind)); }
-static uint32_t shard_found(void) { return refuses(krbrelay_shard_found(&no_shard, 0, 0, &told.kind)); }
-static uint32_t shard_forget(void) { return refuses(krbrelay_shard_forget(&no_shard)); }
-static uint32_t shard_reading(void) { return refuses(krbrelay_shard_reading(&no_shard, &reading)); }
-static uint32_t shard_session(void) { return refuses(krbrelay_shard_session(&no_shard, 0, &receiving)); }
-static uint32_t shard_turn(void) { return refuses(krbrelay_shard_turn(&no_shard, 0, &told.kind, &told.number)); }
-static uint32_t shard_begin(void) { return refuses(krbrelay_shard_begin(&no_shard, 0, 0, &told.kind)); }
-static uint32_t shard_pass(void) { return refuses(krbrelay_shard_pass(&no_shard, 0)); }
-static uint32_t shard_is_full(void) { return krbrelay_shard_is_full(&no_shard, 0) == 0 ? KRBRELAY_OK : KRBRELAY_ARGUMENT; }
-static uint32_t shard_stored(void) { return refuses(krbrelay_shard_stored(&no_shard)); }
-static uint32_t shard_failed(void) { return refuses(krbrelay_shard_failed(&no_shard, KRBRELAY_FAILURE_FAULT, 0, &told.kind)); }
-static uint32_t shard_unpaid(void) { return refuses(krbrelay_shard_unpaid(&no_shard, 0, KRBRELAY_ASKS_NOTHING)); }
-static uint32_t shard_free(void) { krbrelay_shard_free(&no_shard); return KRBRELAY_OK; }
-
-static uint32_t shard_receipt(void)
-{
-    struct krbrelay_receipt it;
-    return refuses(krbrelay_shard_receipt(&no_shard, 0, &told.kind, &it));
-}
-
-static uint32_t shard_next_time(void)
-{
-    return krbrelay_shard_next_time(&no_shard) == UINT64_MAX ? KRBRELAY_OK : KRBRELAY_ARGUMENT;
-}
-
-static uint32_t queue_serve(void) { return krbrelay_queue_serve(&none_wait, &told.kind); }
-static uint32_t queue_len(void) { return krbrelay_queue_len(&none_wait) == 0 ? KRBRELAY_OK : KRBRELAY_ARGUMENT; }
-static uint32_t queue_free(void) { krbrelay_queue_free(&none_wait); return KRBRELAY_OK; }
+REFUSES(shard_loaded, &no_shard, 0, 0)
+REFUSES(shard_listed, &no_shard, 0, 0, &told.kind)
+REFUSES(shard_found, &no_shard, 0, 0, &told.kind)
+REFUSES(shard_forget, &no_shard)
+REFUSES(shard_reading, &no_shard, &reading)
+REFUSES(shard_session, &no_shard, 0, &receiving)
+REFUSES(shard_turn, &no_shard, 0, &told.kind, &told.number)
+REFUSES(shard_begin, &no_shard, 0, 0, &told.kind)
+REFUSES(shard_pass, &no_shard, 0)
+SAYS(shard_is_full, == 0, &no_shard, 0)
+REFUSES(shard_stored, &no_shard)
+REFUSES(shard_failed, &no_shard, KRBRELAY_FAILURE_FAULT, 0, &told.kind)
+REFUSES(shard_unpaid, &no_shard, 0, KRBRELAY_ASKS_NOTHING)
+DOES(shard_free, &no_shard)
+REFUSES(shard_receipt, &no_shard, 0, &told.kind, &(struct krbrelay_receipt){ 0 })
+SAYS(shard_next_time, == UINT64_MAX, &no_shard)
+CALL(queue_serve, &none_wait, &told.kind)
+SAYS(queue_len, == 0, &none_wait)
+DOES(queue_free, &none_wait)
 
 /* ---- the table */
 

@@ -92,16 +92,19 @@ def signatures(copy: Copy) -> Told:
     return copy.run(["python3", "-c", VERSIONS], cwd=copy.top)
 
 
+def sequences(copy: Copy) -> Told:
+    return copy.run(["python3", f"{copy.top}/c/tests/sequences.py", f"{copy.library}/libkrbrelay.so.1"])
+
+
 def c_test(copy: Copy, name: str, *more: str) -> Told:
     if name in OF_C:
         return OF_C[name](copy, *more)
-    words = {"dead_stack": secrets_of(copy), "fuzz": ["20000"], "sequences": ["200000"],
-             "processor": ["unsupported", "told"]}
+    words = {"dead_stack": secrets_of(copy), "fuzz": ["20000"], "processor": ["unsupported", "told"]}
     return c_program(copy, name, *words.get(name, ()))
 
 
 OF_C = {"matrix": matrix, "whole_matrix": whole_matrix, "inline": inline, "supported_v3": supported_v3, "costs": costs,
-        "signatures": signatures}
+        "signatures": signatures, "sequences": sequences}
 
 
 # ---- the program

@@ -1,41 +1,28 @@
-#!/usr/bin/env python3
 """How much of an opener the suite notices: changes the opener of tests/oracle in one place at a time, and
 names the changes that no case notices.
-
-    conformance/mutate                      all changes; 'N passed, M failed' counts them
-    conformance/mutate --part K --of N      every N-th of them, from the K-th on
-    conformance/mutate --only WORDS         those whose line has these words
 
 A change is noticed if one case gets another class or another name than known.toml allows. A change that isn't
 noticed has to stand in unnoticed.toml, with its reason, and one that stands there mustn't be noticed. Each
 comparison, operator, number, truth value and call whose result isn't used is changed, but for functions that
 seal or print.
-
-Needed: Python's package cryptography.
 """
 from __future__ import annotations
 
-import argparse
 import ast
 import collections.abc
 import copy
 import dataclasses
 import os
-import pathlib
 import sys
-import tomllib
 import types
 
-ROOM = pathlib.Path(__file__).resolve().parent
-sys.path[:0] = [str(ROOM), str(ROOM / "runners"), str(ROOM.parent / "tests"), str(ROOM.parent / "tools")]
-sys.dont_write_bytecode = True
-from lib import options, report  # noqa: E402
-from vectors import build, judging, readers  # noqa: E402
-from vectors.model import Case, Group  # noqa: E402
-import asked as lines  # noqa: E402
-import own_opener as reading  # noqa: E402
+import asked as lines
+import own_opener as reading
+from lib import options, report
+from vectors import build, judging, readers
+from vectors.model import Case, Group
 
-ORACLE = ROOM.parent / "tests" / "oracle"
+ORACLE = build.ROOM.parent / "tests" / "oracle"
 MODULES = ("frames", "reader", "opener")
 # What sealing and printing need, and opening doesn't. Of `integer` opening spells 5, 20 and 0 only.
 LEFT_OUT = {
@@ -126,7 +113,8 @@ def loaded(change: Change | None) -> types.ModuleType:
         module = types.ModuleType(f"oracle.{name}")
         sys.modules[module.__name__] = module
         setattr(package, name, module)
-        source = change.source if change and change.module == name else (ORACLE / f"{name}.py").read_text(encoding="utf-8")
+        is_changed = change is not None and change.module == name
+        source = change.source if is_changed else (ORACLE / f"{name}.py").read_text(encoding="utf-8")
         exec(compile(source, f"{name}.py", "exec"), module.__dict__)
     return sys.modules["oracle.opener"]
 
@@ -142,12 +130,7 @@ def verdicts_of(opener: types.ModuleType, asked: lines.Asked) -> list[str]:
 
 
 def notices(opener: types.ModuleType, of: readers.Implementation, all_asked: list[Asked]) -> bool:
-    known = judging.known_of(of)
-    return any(not is_allowed(known, of, group, case, verdicts_of(opener, asked)) for group, case, asked in all_asked)
-
-
-def is_allowed(known: judging.Known, of: readers.Implementation, group: Group, case: Case, verdicts: list[str]) -> bool:
-    return known.allows(case, judging.class_of(of, group, case, verdicts), verdicts)
+    return any(not judging.is_allowed(of, group, case, verdicts_of(opener, asked)) for group, case, asked in all_asked)
 
 
 def is_noticed(change: Change, of: readers.Implementation, all_asked: list[Asked]) -> bool:
@@ -158,29 +141,13 @@ def is_noticed(change: Change, of: readers.Implementation, all_asked: list[Asked
     return notices(opener, of, all_asked)
 
 
-def asked_of(of: readers.Implementation) -> list[Asked]:
-    """What the opener can be asked, a sample of it first."""
-    found = [(group, case, lines.asked_of(readers.line_of(group, case))) for group, case in build.cases(build.built())
-             if judging.is_asked(of, group, case)]
-    return found[::FIRST] + found
-
-
-# ----
-
-def arguments() -> argparse.Namespace:
+def main(words: list[str]) -> int:
     parser = options.Parser(__doc__).takes("--part", type=int, default=0).takes("--of", type=int, default=1)
-    return parser.takes("--only", default="").parse_args()
-
-
-def reasons() -> dict[str, str]:
-    with open(ROOM / "unnoticed.toml", "rb") as file:
-        return tomllib.load(file)["unnoticed"]
-
-
-def main() -> int:
-    asked, count, known = arguments(), report.Count(), reasons()
-    of = readers.implementations()["oracle"]
-    all_asked = asked_of(of)
+    asked = parser.takes("--only", default="").parse_args(words)
+    os.environ.pop("OPENER", None)
+    count, known, of = report.Count(), build.table("unnoticed")["unnoticed"], readers.implementations()["oracle"]
+    found = [(*it, lines.asked_of(readers.line_of(*it))) for it in judging.asked_of(of, build.built())]
+    all_asked = found[::FIRST] + found
     count.told(not notices(loaded(None), of, all_asked), "the opener as it is passes")
     changes = numbered(it for name in MODULES for it in changes_of(name))
     for it in [it for it in changes[asked.part::asked.of] if asked.only in it.line]:
@@ -189,8 +156,3 @@ def main() -> int:
     gone = sorted(set(known) - {it.line for it in changes})
     count.told(not gone, f"{len(known)} of {len(changes)} changes are known not to be noticed", gone)
     return count.end()
-
-
-if __name__ == "__main__":
-    os.environ.pop("OPENER", None)
-    sys.exit(main())

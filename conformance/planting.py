@@ -1,15 +1,8 @@
-#!/usr/bin/env python3
 """Plants faults in krbrelay's own reader, and tells whether the cases notice them.
-
-    conformance/plant              all faults of faults.toml
-    conformance/plant NAME..       these
-    conformance/plant --list       names them
-    conformance/plant --keep FILE  takes the program with faults that lies there, or keeps it there
 
 All faults go into a copy of the sources, of which the program is built without its proofs; a variable of the
 environment chooses one. Then `krbrelay open` reads the cases until one is answered otherwise than known.toml
 says, and a line for each fault names that case. Without a fault the first cases pass, which is tried first.
-The last line is 'N passed, M failed'. Needed: rt and a C compiler.
 """
 from __future__ import annotations
 
@@ -21,15 +14,12 @@ import shutil
 import subprocess
 import sys
 import tempfile
-import tomllib
 
-ROOM = pathlib.Path(__file__).resolve().parent
-TOP = ROOM.parent
-sys.path[:0] = [str(ROOM), str(TOP / "tests"), str(TOP / "tools")]
-sys.dont_write_bytecode = True
-from lib import options, report  # noqa: E402
-from vectors import build, judging, readers  # noqa: E402
-from vectors.model import Case, Group  # noqa: E402
+from lib import options, report
+from lib.build import building
+from lib.plants import planted as edits
+from vectors import build, judging, readers
+from vectors.model import Case, Group
 
 Faults = dict[str, dict[str, str]]
 # What says which fault is chosen: the variable KRBRELAY_PLANTED, a number from 1 on.
@@ -60,38 +50,27 @@ LONGEST = 20_000            # digits of the longest case: the program without pr
 Asked = tuple[Group, Case]
 
 
-def faults() -> Faults:
-    with open(ROOM / "faults.toml", "rb") as file:
-        return tomllib.load(file)
-
-
 # ---- building
 
 @contextlib.contextmanager
 def copied() -> collections.abc.Iterator[pathlib.Path]:
     """A copy of what the program is built from, as it stands here."""
     with tempfile.TemporaryDirectory() as folder:
-        listed = subprocess.run(["git", "-C", TOP, "ls-files", "-z", "--", *COPIED], check=True, stdout=subprocess.PIPE, text=True)
+        listed = subprocess.run(["git", "-C", building.TOP, "ls-files", "-z", "--", *COPIED], check=True,
+                                stdout=subprocess.PIPE, text=True)
         for path in listed.stdout.split("\0")[:-1]:
             target = pathlib.Path(folder, path)
             target.parent.mkdir(parents=True, exist_ok=True)
-            shutil.copy2(TOP / path, target)
+            shutil.copy2(pathlib.Path(building.TOP, path), target)
         subprocess.run(["git", "init", "-q", folder], check=True)
         yield pathlib.Path(folder)
-
-
-def replace_once(path: pathlib.Path, old: str, new: str) -> None:
-    text = path.read_text(encoding="utf-8")
-    if text.count(old) != 1:
-        raise SystemExit(f"{path} has {text.count(old)} times {old!r}")
-    path.write_text(text.replace(old, new), encoding="utf-8")
 
 
 def edit(top: pathlib.Path, planted: Faults) -> None:
     """Puts all faults into a copy, and in krb_base a function that says which one is chosen."""
     for number, fault in enumerate(planted.values(), 1):
-        replace_once(top / "crates" / fault["file"], fault["old"],
-                     fault["new"].replace("FAULT", f"krb_base::is_planted({number})"))
+        new = fault["new"].replace("FAULT", f"krb_base::is_planted({number})")
+        edits.make((f"crates/{fault['file']}", fault["old"], new), str(top))
     (top / "crates" / "krb_base" / "c").mkdir()
     (top / "crates" / "krb_base" / "c" / "planted.c").write_text(CHOSEN_IN_C, encoding="utf-8")
     with open(top / "crates" / "krb_base" / "src" / "lib.rt", "a", encoding="utf-8") as file:
@@ -111,8 +90,8 @@ def built(planted: Faults, keep: str) -> str:
     """Builds the program with all faults, and keeps it there. Returns what the build says if it fails."""
     with copied() as top:
         edit(top, planted)
-        done = subprocess.run([top / "tools" / "krbrelay", "--unproved", "--version"], check=False, stdout=subprocess.PIPE,
-                              stderr=subprocess.STDOUT, text=True, env={**os.environ, "RT_ALLOW_C": "1"})
+        done = subprocess.run([top / "tools" / "krbrelay", "--unproved", "--version"], check=False, text=True,
+                              stdout=subprocess.PIPE, stderr=subprocess.STDOUT, env={**os.environ, "RT_ALLOW_C": "1"})
         program = top / "out" / "unproved" / "krbrelay"
         if done.returncode or not program.exists():
             return done.stdout[-2500:] or "the program isn't kept"
@@ -124,7 +103,7 @@ def built(planted: Faults, keep: str) -> str:
 
 def in_order(of: readers.Implementation) -> list[Asked]:
     """What the program can be asked: a few of each group and flag first."""
-    found = [it for it in build.cases(build.built()) if judging.is_asked(of, *it) and len(readers.line_of(*it)) < LONGEST]
+    found = [it for it in judging.asked_of(of, build.built()) if len(readers.line_of(*it)) < LONGEST]
     seen: dict[tuple[str, ...], int] = {}
     ranked = []
     for group, case in found:
@@ -136,13 +115,11 @@ def in_order(of: readers.Implementation) -> list[Asked]:
 
 def first_noticed(of: readers.Implementation, runner: readers.Runner, chosen: list[Asked]) -> tuple[Asked | None, int]:
     """The first case that isn't answered as is known, and how many were tried."""
-    known = judging.known_of(of)
     for start in range(0, len(chosen), AT_ONCE):
         part = chosen[start:start + AT_ONCE]
         verdicts = readers.verdicts_of(runner, part)
         for place, (group, case) in enumerate(part):
-            told = verdicts[case.number]
-            if not known.allows(case, judging.class_of(of, group, case, told), told):
+            if not judging.is_allowed(of, group, case, verdicts[case.number]):
                 return (group, case), start + place + 1
     return None, len(chosen)
 
@@ -158,10 +135,10 @@ def try_fault(count: report.Count, found: tuple[Asked | None, int], name: str) -
     count.told(asked is not None, f"{name}: noticed by {told} ({tried} tried)")
 
 
-def main() -> int:
-    planted, count = faults(), report.Count()
+def main(words: list[str]) -> int:
+    planted, count = build.table("faults"), report.Count()
     parser = options.Parser(__doc__, "--list").takes("names", nargs="*", type=options.one_of(planted), metavar="NAME")
-    asked = parser.takes("--keep", metavar="FILE").parse_args()
+    asked = parser.takes("--keep", metavar="FILE").parse_args(words)
     if asked.form:
         print(*planted, sep="\n")
         return 0
@@ -179,7 +156,3 @@ def main() -> int:
                 ordered = sorted(chosen, key=lambda it, first=planted[name]["group"]: it[0].name != first)
                 try_fault(count, first_noticed(of, runner_of(of, program, number), ordered), name)
     return count.end()
-
-
-if __name__ == "__main__":
-    sys.exit(main())
