@@ -12,12 +12,13 @@ import sqlite3
 import time
 import threading
 
+import cases
 import chaos
 import engines
+import errors
 import evidence
 import jetstream
 import loglines
-import repro
 import units
 
 UNITS = os.path.join(os.path.dirname(os.path.abspath(__file__)), "../systemd")
@@ -66,9 +67,9 @@ class Endurance:
     def write_sessions(self):
         lines = {name: f"{name} {self.shard_of(name)} 18 priv {int(name[1:]) + 1:064x} {FIRST}"
                        " 10.0.0.1 10.0.0.2\n" for name in self.names}
-        repro.Place.write(f"{self.folder}/sessions", lines.values())
+        errors.Ends.write(f"{self.folder}/sessions", lines.values())
         for sender in range(SENDERS):
-            repro.Place.write(f"{self.folder}/sessions{sender}", [
+            errors.Ends.write(f"{self.folder}/sessions{sender}", [
                 line for name, line in lines.items() if self.sender_of(name) == sender])
 
     def start(self):
@@ -193,7 +194,7 @@ class Endurance:
             with open(path, encoding="ascii") as file:
                 lines = file.readlines()
             self.dice.shuffle(lines)
-            repro.Place.write(path + ".new", lines)
+            errors.Ends.write(path + ".new", lines)
             os.rename(path + ".new", path)
 
     # ---- metrics
@@ -209,7 +210,7 @@ class Endurance:
     def sample(self, moment):
         answered, lags, waiting = 0, {}, 0.0
         for port in self.ports.values():
-            status, text = repro.get(port, "/metrics")
+            status, text = cases.get(port, "/metrics")
             answered += status == 200
             for line in text.splitlines() if status == 200 else ():
                 if line.startswith(LAG):

@@ -119,6 +119,8 @@ class Nats:
         for node in self.running:
             self.kill(node)
 
+    close = stop        # for contextlib.closing
+
 
 class Postgres:
     """One server, which is a child of this process under the user `postgres` where that is root."""
@@ -178,3 +180,5 @@ class Postgres:
         if self.server.poll() is None:
             self.server.send_signal(signal.SIGQUIT)     # at once
             self.server.wait()
+
+    close = stop

@@ -1,5 +1,6 @@
 """Errors of the senders and receivers of carrier/: each has a message that says what to do, and
 nothing is lost."""
+import contextlib
 import os
 import signal
 import sqlite3
@@ -50,26 +51,35 @@ class Ends:
         return subprocess.run(self.command(name, *more, **other), check=False, timeout=LIMIT,
                               stdout=subprocess.PIPE, stderr=subprocess.STDOUT, text=True)
 
+    def start(self, name, *more):
+        return subprocess.Popen(self.command(name, *more), stdout=subprocess.PIPE, stderr=subprocess.STDOUT, text=True)
+
     def put(self, rows):
         """Puts texts into the outbox, which is made first."""
         self.run("sender", "--drain")
-        file = sqlite3.connect(self.outbox, timeout=LIMIT)
-        with file:
+        with opened(self.outbox) as file:
             file.executemany("INSERT INTO text (session, body) VALUES (?, ?)", rows)
-        file.close()
 
     def put_all(self):
         self.put([(name, text.encode()) for text in TEXTS for name in ("ann", "tom")]
                  + [("ann", None), ("tom", None)])
 
+    def send_all(self):
+        self.put_all()
+        self.run("sender", "--drain")
+
     def has_all(self):
         """Whether each text took effect once and in order."""
-        file = sqlite3.connect(self.store.removeprefix("sqlite:"), timeout=LIMIT)
-        effects = {name: [text.decode() for text, in file.execute(
-            "SELECT text FROM effect WHERE session = ? ORDER BY id", (name,))]
-                   for name in ("ann", "tom")}
-        file.close()
-        return all(texts == TEXTS for texts in effects.values())
+        with opened(self.store.removeprefix("sqlite:")) as file:
+            return all([text.decode() for text, in file.execute(
+                "SELECT text FROM effect WHERE session = ? ORDER BY id", (name,))] == TEXTS for name in ("ann", "tom"))
+
+
+@contextlib.contextmanager
+def opened(path):
+    """A database, whose transaction is committed if nothing goes wrong."""
+    with contextlib.closing(sqlite3.connect(path, timeout=LIMIT)) as file, file:
+        yield file
 
 
 def is_told(done, event, words="", status=1, **fields):
@@ -167,8 +177,7 @@ def hold(path, seconds):
 def test_locked(count, ends):
     """A store that is locked for a while, below a receiver that is at work."""
     ends.put_all()
-    receiver = subprocess.Popen(ends.command("receiver", "--until-closed"), stdout=subprocess.PIPE,
-                                stderr=subprocess.STDOUT, text=True)
+    receiver = ends.start("receiver", "--until-closed")
     path = ends.store.removeprefix("sqlite:")
     while not os.path.exists(path) or "shard" not in tables_of(path):
         time.sleep(0.05)
@@ -181,18 +190,14 @@ def test_locked(count, ends):
 
 
 def tables_of(path):
-    file = sqlite3.connect(path, timeout=LIMIT)
-    names = [name for name, in file.execute("SELECT name FROM sqlite_schema")]
-    file.close()
-    return names
+    with opened(path) as file:
+        return [name for name, in file.execute("SELECT name FROM sqlite_schema")]
 
 
 def test_at_once(count, ends, what):
     """Receivers that all begin at once make the tables together."""
-    running = [subprocess.Popen(ends.command("receiver", "--until-closed"), stdout=subprocess.PIPE,
-                                stderr=subprocess.STDOUT, text=True) for _ in range(AT_ONCE)]
-    ends.put_all()
-    ends.run("sender", "--drain")
+    running = [ends.start("receiver", "--until-closed") for _ in range(AT_ONCE)]
+    ends.send_all()
     texts = [it.communicate(timeout=LIMIT)[0] for it in running]
     fine = all(it.returncode == 0 for it in running)
     count.told(fine, f"error: {AT_ONCE} receivers make the tables of {what} at once")
@@ -202,12 +207,10 @@ def test_at_once(count, ends, what):
 
 def test_store_away(count, ends, postgres):
     """The server of the store is started again below a receiver, which goes on."""
-    receiver = subprocess.Popen(ends.command("receiver", "--until-closed"), stdout=subprocess.PIPE,
-                                stderr=subprocess.STDOUT, text=True)
+    receiver = ends.start("receiver", "--until-closed")
     time.sleep(1)
     postgres.restart(1)
-    ends.put_all()
-    ends.run("sender", "--drain")
+    ends.send_all()
     text = receiver.communicate(timeout=LIMIT)[0]
     found = {name: int(texts) for name, texts in postgres.ask(
         "SELECT session, count(DISTINCT text) FROM effect GROUP BY session")}
@@ -218,43 +221,42 @@ def test_store_away(count, ends, postgres):
                loglines.faults(text))
 
 
+def told_all(count, done, postgres, what, is_so=True):
+    """The receiver has ended well, and PostgreSQL has all texts of both sessions."""
+    found = postgres.ask("SELECT count(DISTINCT text) FROM effect GROUP BY session")
+    count.told(done.returncode == 0 and is_so and found == [[str(len(TEXTS))]] * 2,
+               f"error: {what}; all texts arrive: {found}", [done.stdout[-500:]])
+
+
 def test_store_used(count, ends, postgres):
     """Another receiver's transaction has changed rows of each table: one that starts doesn't wait for it."""
-    ends.put_all()
-    ends.run("sender", "--drain")
+    ends.send_all()
     other = subprocess.Popen(["psql", "-q", postgres.where, "-c", "BEGIN; LOCK TABLE shard, session, passed,"
                               " opened, effect IN ROW EXCLUSIVE MODE; SELECT pg_sleep(20); ROLLBACK"],
                              stdout=subprocess.DEVNULL, stderr=subprocess.DEVNULL)
     time.sleep(1)
     done = ends.run("receiver", "--until-closed")
-    found = postgres.ask("SELECT count(DISTINCT text) FROM effect GROUP BY session")
     is_used = other.poll() is None
     other.kill()
     other.wait()
-    count.told(done.returncode == 0 and is_used and found == [[str(len(TEXTS))]] * 2,
-               f"error: another transaction is open; all texts arrive: {found}", [done.stdout[-500:]])
-    count.told(not loglines.has(done.stdout, "store_away"), "error: and nothing waits for it",
-               [done.stdout[-500:]])
+    told_all(count, done, postgres, "another transaction is open", is_used)
+    count.told(not loglines.has(done.stdout, "store_away"), "error: and nothing waits for it", [done.stdout[-500:]])
 
 
 def test_privileges(count, ends, postgres):
     """A role that may not make tables, as by default in PostgreSQL 15, uses those that are there."""
-    ends.put_all()
-    ends.run("sender", "--drain")
+    ends.send_all()
     for sql in ("CREATE ROLE plain LOGIN", "GRANT USAGE ON SEQUENCE effect_id_seq TO plain",
                 "GRANT SELECT, INSERT, UPDATE, DELETE ON shard, session, passed, effect TO plain"):
         postgres.ask(sql)
     done = ends.run("receiver", "--until-closed", store=postgres.where.replace("postgres@", "plain@"))
-    found = postgres.ask("SELECT count(DISTINCT text) FROM effect GROUP BY session")
-    count.told(done.returncode == 0 and found == [[str(len(TEXTS))]] * 2,
-               f"error: a role that may make no table; all texts arrive: {found}", [done.stdout[-500:]])
+    told_all(count, done, postgres, "a role that may make no table")
 
 
 def test_store_silent(count, ends, postgres):
     """The server of the store doesn't answer any more, and a receiver is told to end."""
     ends.put_all()
-    receiver = subprocess.Popen(ends.command("receiver"), stdout=subprocess.PIPE,
-                                stderr=subprocess.STDOUT, text=True)
+    receiver = ends.start("receiver")
     time.sleep(1)
     postgres.signal_all(signal.SIGSTOP)
     ends.run("sender", "--drain")
@@ -271,18 +273,13 @@ def test_store_silent(count, ends, postgres):
 
 def test_junk(count, ends):
     """Bytes that are no frame, and a frame under another session's name, before all else."""
-    ends.put_all()
-    ends.run("sender", "--drain")
-    path = ends.carrier.removeprefix("sqlite:")
-    file = sqlite3.connect(path)
-    rows = file.execute("SELECT shard, session, frame FROM carried ORDER BY offset").fetchall()
-    junk = [(0, "tom", b""), (0, "tom", bytes(100)), (0, "nobody", rows[0][2]),
-            (0, "tom", rows[0][2]), (0, "ann", rows[5][2]), (0, "x" * 300, b"x")]
-    with file:
+    ends.send_all()
+    with opened(ends.carrier.removeprefix("sqlite:")) as file:
+        rows = file.execute("SELECT shard, session, frame FROM carried ORDER BY offset").fetchall()
+        junk = [(0, "tom", b""), (0, "tom", bytes(100)), (0, "nobody", rows[0][2]),
+                (0, "tom", rows[0][2]), (0, "ann", rows[5][2]), (0, "x" * 300, b"x")]
         file.execute("DELETE FROM carried")
-        file.executemany("INSERT INTO carried (shard, session, frame) VALUES (?, ?, ?)",
-                         junk + rows)
-    file.close()
+        file.executemany("INSERT INTO carried (shard, session, frame) VALUES (?, ?, ?)", junk + rows)
     done = ends.run("receiver", "--until-closed")
     count.told(done.returncode == 0 and loglines.has(done.stdout, "frame_refused")
                and ends.has_all(), "error: junk in a shard; all texts arrive")
@@ -308,3 +305,15 @@ def test(count, programs, folder, with_servers=False):
     test_at_once(count, next(places), "SQLite")
     test_junk(count, next(places))
     test_after_close(count, next(places))
+
+
+def test_with_server(count, postgres, new_ends):
+    """Over a store of PostgreSQL that has a table of effects."""
+    postgres.ask("DROP TABLE shard, session, effect")
+    test_at_once(count, new_ends(), "PostgreSQL")
+    postgres.ask("DROP TABLE shard, session, effect")
+    test_store_away(count, new_ends(), postgres)
+    for part in (test_store_used, test_privileges):
+        postgres.ask("TRUNCATE shard, session, effect")
+        part(count, new_ends(), postgres)
+    test_store_silent(count, new_ends(), postgres)
