@@ -546,7 +546,7 @@ def judge(world, case, since):
 
 def run(programs, folder, template, case):
     """One case: whether it went right, its line, and what went wrong."""
-    network = machines.Network(f"{programs}/switch")
+    network = machines.Network()
     world = machines.World(folder, programs, network, machines.Options(**case.made))
     try:
         world.start(template)

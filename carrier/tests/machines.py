@@ -1,5 +1,5 @@
 """Eight machines on one: three nodes of JetStream, two senders, two receivers and PostgreSQL. Each is
-a network namespace with a wire to one switch in user space (switch.c), which loses, delays and
+a network namespace with a wire to one switch in user space (switch.py), which loses, delays and
 reorders as it is told. A disk may be a file system on an image: a copy of the image at a moment is
 what a loss of power leaves. machine_cases.py and two_faults.py have what is done to them.
 
@@ -42,6 +42,7 @@ STEP = 0.1                          # seconds between insertions
 LOOK = 0.3                          # seconds between looks at the effects
 IMAGE = 400                         # megabytes
 
+SWITCH = os.path.join(os.path.dirname(os.path.abspath(__file__)), "switch.py")
 METRICS = 9464                      # the port at which a program shows its numbers
 # Prints what the program at a port of the loopback answers: the status and the text.
 ASK = """
@@ -89,12 +90,12 @@ def run(*words, **how):
 class Network:
     """A namespace for each machine, and the switch between them."""
 
-    def __init__(self, switch):
+    def __init__(self):
         tag = f"k{os.getpid()}n{next(TURNS)}"
         self.spaces = {name: f"{tag}-{name}" for name in MACHINES}
         wires = [f"{tag}t{place}" for place in range(len(MACHINES))]
         self.lock = threading.Lock()
-        self.switch = subprocess.Popen([switch, *wires], stdin=subprocess.PIPE,
+        self.switch = subprocess.Popen([sys.executable, SWITCH, *wires], stdin=subprocess.PIPE,
                                        stdout=subprocess.PIPE, text=True)
         if self.switch.stdout.readline() != "ready\n":
             raise RuntimeError("the switch doesn't start")

@@ -168,13 +168,6 @@ def clock_sender(place):
     drain_and_receive(place, (), ("--skew", str(3 * DAYS)))
 
 
-@case("--skew 24h", {"ann": 100}, 10)
-def skew_word(place):
-    require_misuse(place, "receiver", "--skew", "24h")
-    place.put(texts("ann", 0, 100))
-    drain_and_receive(place, ())
-
-
 @case("a receiver doesn't have a session's line at first", {"ann": 100, "tom": 100}, 25)
 def session_later(place):
     place.put(texts("ann", 0, 100) + texts("tom", 0, 100) + close("ann", "tom"))
@@ -1001,12 +994,6 @@ def zombie_sender(place):
 
 # ---- words of the command line and the file of sessions
 
-def require_misuse(place, program, option, value):
-    """A word that an option can't have is refused, with the option's name."""
-    status, told = place.run(program, option, value, seconds=2)
-    place.require(status == 2 and option in told, f"{program} {option} '{value}': status {status}")
-
-
 @case("--shards all, and 0-1,3", {"ann": 5, "tom": 5}, 15, (ANN, TOM_1))
 def shards_word(place):
     for words in ("all", "-1", "3-0", "0-", "4096-5000", ""):
@@ -1014,40 +1001,6 @@ def shards_word(place):
         place.require(status == 2 and "--shards" in told, f"--shards '{words}': status {status}")
     place.send(texts("ann", 0, 5) + texts("tom", 0, 5))
     place.receive(shards="0-1,3")
-
-
-@case("numbers of options that are none, or out of range", {}, 10)
-def numbers_of_words(place):
-    for program, option, value in (
-            ("receiver", "skew", "abc"), ("receiver", "skew", "4294967296"), ("receiver", "batch", "0"),
-            ("receiver", "batch", "5000"), ("receiver", "replicas", "-1"), ("sender", "replicas", "6"),
-            ("sender", "batch", "1001"), ("sender", "life", "2s"), ("sender", "life", ""),
-            ("sender", "replicas", " 1")):
-        require_misuse(place, program, f"--{option}", value)
-    for program in ("sender", "receiver"):
-        for word, part in (("--help", "--sessions"), ("--version", "krbrelay")):
-            place.require(part in place.require_run(program, word, seconds=2), f"{program} {word} doesn't say {part}")
-
-
-@case("files of sessions that are wrong", {}, 10)
-def bad_sessions(place):
-    """They are refused, with the line and the reason."""
-    for what, line, event in (
-            ("the same name", ANN.replace("11" * 16, "33" * 16), "session_repeated"),
-            ("the same key", ABE.replace("44" * 16, "11" * 16), "session_repeated"),
-            ("a shard of -1", ANN.replace("ann 0", "ann -1"), "session_malformed"),
-            ("a shard of 5000", ANN.replace("ann 0", "ann 5000"), "session_malformed"),
-            ("a key with a sign", ANN.replace("11" * 16, "+1" * 16), "session_malformed"),
-            ("a first number of -1", ANN.replace(" 1 10", " -1 10"), "session_malformed"),
-            ("a first number of 2^32", ANN.replace(" 1 10", f" {LAST + 1} 10"), "session_malformed"),
-            ("a word more", ANN.replace("\n", " more\n"), "session_malformed"),
-            ("a long line", ANN.replace("\n", " " * 300 + "\n"), "session_malformed")):
-        lines = [ANN, line] if event == "session_repeated" else [line]
-        place.write(place.sessions, lines)
-        for program in ("sender", "receiver"):
-            status, told = place.run(program, seconds=2)
-            place.require(status == 1 and loglines.has(told, event, line=len(lines)),
-                          f"{what}, {program}: status {status}")
 
 
 @case("who may read the files", {"ann": 5}, 10)
