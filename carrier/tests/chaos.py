@@ -26,6 +26,7 @@ import threading
 import time
 
 import engines
+import errors
 import loglines
 from lib import jobs, printed
 
@@ -35,6 +36,7 @@ KINDS = (["receiver"] * 4 + ["sender"] * 3 + ["stop receiver", "stop sender", "s
          + ["node"] * 2)
 TAKEN = "200"       # frames of one transaction: few, so that many are under way when one is killed
 DUMPED = 120        # seconds for one look at all shards
+SILENT = {"stdout": subprocess.DEVNULL, "stderr": subprocess.DEVNULL}
 FRAMES, BYTES = 2000, 7_000_000     # the most frames of a job, and of their bytes
 
 
@@ -106,11 +108,6 @@ class Session:
     def lines(self):
         """What `krbrelay open` has to print beside refusals."""
         return [f"lane 0 text {text.hex()}" for text in self.texts] + ["lane 0 closed"]
-
-
-def write_sessions(path, sessions):
-    with open(os.open(path, os.O_WRONLY | os.O_CREAT, 0o600), "w", encoding="ascii") as file:
-        file.writelines(it.line() for it in sessions)
 
 
 # ---- the programs
@@ -233,10 +230,8 @@ class Feeder:
     def has_none(self, *kinds):
         left = 0
         for path in self.paths:
-            file = sqlite3.connect(path, timeout=30)
-            for rows in kinds:
-                left += file.execute(f"SELECT count(*) FROM {rows}").fetchone()[0]
-            file.close()
+            with errors.opened(path) as file:
+                left += sum(file.execute(f"SELECT count(*) FROM {rows}").fetchone()[0] for rows in kinds)
         return left == 0
 
 
@@ -333,10 +328,12 @@ class Trial:
         self.where, self.replicas = f"sqlite:{self.folder}/carrier.db", 1
         self.store = {"sqlite": f"sqlite:{self.folder}/receiver.db",
                       "shards": f"sqlite:{self.folder}/receiver%.db"}.get(given.store)
-        write_sessions(f"{self.folder}/sessions", self.sessions)
+        self.write_sessions("", lambda it: True)
         for sender in range(given.senders):
-            write_sessions(f"{self.folder}/sessions{sender}",
-                           [it for it in self.sessions if it.sender == sender])
+            self.write_sessions(sender, lambda it, wanted=sender: it.sender == wanted)
+
+    def write_sessions(self, name, is_wanted):
+        errors.Ends.write(f"{self.folder}/sessions{name}", [it.line() for it in self.sessions if is_wanted(it)])
 
     def start_engines(self):
         if self.given.carrier != "sqlite":
@@ -347,6 +344,11 @@ class Trial:
             self.postgres = engines.Postgres(self.folder)
             self.store = self.postgres.where
         self.processes = Processes(self.given, self.where, self.replicas, self.store, self.folder)
+
+    def receiver(self, store):
+        """A receiver of all shards, with this store."""
+        return [f"{self.given.programs}/receiver", "--sessions", f"{self.folder}/sessions", "--store", store,
+                *self.processes.common, "--shards", ",".join(map(str, range(self.given.shards)))]
 
     def options(self):
         return ["--carrier", self.where, "--sessions", f"{self.folder}/sessions", "--shards",
@@ -369,8 +371,7 @@ class Trial:
         """Each outbox is made before the first text: a sender with nothing to do ends."""
         for it in range(self.given.senders):
             subprocess.run([f"{self.given.programs}/sender", *self.processes.common,
-                            *self.processes.words("sender", it), "--drain"], check=True,
-                           stdout=subprocess.DEVNULL, stderr=subprocess.DEVNULL, timeout=60)
+                            *self.processes.words("sender", it), "--drain"], check=True, timeout=60, **SILENT)
         for kind, count in (("sender", self.given.senders), ("receiver", self.given.receivers)):
             for it in range(count):
                 self.processes.start(f"{kind}-{it}")
@@ -420,10 +421,7 @@ class Trial:
     def has_receipts(self, feeder):
         """Whether the senders learn of all effects. A receipt may be lost: so a receiver stays that
         seals it again, as those that have ended since all is closed don't."""
-        command = [f"{self.given.programs}/receiver", "--sessions", f"{self.folder}/sessions",
-                   "--store", self.store, *self.processes.common, "--shards",
-                   ",".join(map(str, range(self.given.shards)))]
-        receiver = subprocess.Popen(command, stdout=subprocess.DEVNULL, stderr=subprocess.DEVNULL)
+        receiver = subprocess.Popen(self.receiver(self.store), **SILENT)
         try:
             return wait(feeder.is_empty, self.processes, self.counts, self.given.patience)
         finally:
@@ -451,11 +449,10 @@ class Trial:
             return rows, {name: (int(number), int(closed)) for name, number, closed in ends}
         rows, ends = [], {}
         for path in glob.glob(store[len("sqlite:"):].replace("%", "*")):
-            file = sqlite3.connect(path)
-            rows += file.execute("SELECT session, number, text FROM effect ORDER BY id")
-            ends |= {name: (number, closed) for name, number, closed in
-                     file.execute("SELECT name, next, closed FROM session")}
-            file.close()
+            with errors.opened(path) as file:
+                rows += file.execute("SELECT session, number, text FROM effect ORDER BY id")
+                ends |= {name: (number, closed) for name, number, closed in
+                         file.execute("SELECT name, next, closed FROM session")}
         return rows, ends
 
     def check_effects(self, store, what):
@@ -472,16 +469,12 @@ class Trial:
         self.counts["texts"] = sum(map(len, effects.values()))
 
     def replay(self, store):
-        command = [f"{self.given.programs}/receiver", "--sessions", f"{self.folder}/sessions",
-                   "--store", store, *self.processes.common, "--until-closed", "--shards",
-                   ",".join(map(str, range(self.given.shards)))]
+        command = [*self.receiver(store), "--until-closed"]
         until = time.monotonic() + DUMPED
         status = None
         while status != 0 and time.monotonic() < until:     # after a fault it is started again
             try:
-                status = subprocess.run(command, check=False, timeout=DUMPED,
-                                        stdout=subprocess.DEVNULL,
-                                        stderr=subprocess.DEVNULL).returncode
+                status = subprocess.run(command, check=False, timeout=DUMPED, **SILENT).returncode
             except subprocess.TimeoutExpired:
                 self.faults.append("replay hasn't ended")
 

@@ -80,62 +80,32 @@ def nothing(world):
 
 # ---- the network
 
-@case("a leader is cut from its peers for 7 s")
-def leader_cut_from_peers(world):
+@case("a leader is cut from its peers for 7 s", called="leader_cut_from_peers",
+      given=(lambda net, leader, peers: net.cut(leader, peers),))
+@case("a leader is cut off for 7 s", called="leader_isolated", given=(lambda net, leader, _: net.cut(leader, "*"),))
+@case("what a leader sends to its peers is lost for 7 s", loses=ONE_WAY, called="leader_one_way_out",
+      given=(lambda net, leader, peers: net.set_way(leader, peers, 1),))
+@case("what its peers send to a leader is lost for 7 s", called="leader_one_way_in",
+      given=(lambda net, leader, peers: net.set_way(peers, leader, 1),))
+def leader_cut(world, cut):
     leader = world.leader()
-    world.network.cut([leader], others(leader))
+    cut(world.network, [leader], others(leader))
     time.sleep(7)
 
 
-@case("a leader is cut off for 7 s")
-def leader_isolated(world):
-    world.network.isolate(world.leader())
-    time.sleep(7)
-
-
-@case("what a leader sends to its peers is lost for 7 s", loses=ONE_WAY)
-def leader_one_way_out(world):
-    leader = world.leader()
-    world.network.set_way([leader], others(leader), 1)
-    time.sleep(7)
-
-
-@case("what its peers send to a leader is lost for 7 s")
-def leader_one_way_in(world):
-    leader = world.leader()
-    world.network.set_way(others(leader), [leader], 1)
-    time.sleep(7)
-
-
-@case("all nodes are cut from each other for 7 s", gap=25)
-def nodes_apart(world):
-    for node in NODES:
-        world.network.cut([node], others(node))
-    time.sleep(7)
-
-
-@case("two of three nodes are cut from each other for 7 s")
-def half_ring(world):
-    world.network.cut(["n0"], ["n2"])
-    time.sleep(7)
-
-
-@case("a fifth of all is lost and the rest late by 20 to 100 ms, for 8 s")
-def loss(world):
-    world.network.set_way("*", "*", 0.2, 20, 80)
-    time.sleep(8)
-
-
-@case("half of what nodes send to senders is lost for 7 s")
-def confirmations_lost(world):
-    world.network.set_way(NODES, SENDERS, 0.5)
-    time.sleep(7)
-
-
-@case("senders are 1.3 s from the nodes for 14 s", gap=25, made={"seconds": 20})
-def far_senders(world):
-    world.network.set_both_ways(SENDERS, NODES, 0, 1300)
-    time.sleep(14)
+@case("all nodes are cut from each other for 7 s", gap=25, called="nodes_apart",
+      given=(lambda net: [net.cut([it], others(it)) for it in NODES],))
+@case("two of three nodes are cut from each other for 7 s", called="half_ring",
+      given=(lambda net: net.cut(["n0"], ["n2"]),))
+@case("a fifth of all is lost and the rest late by 20 to 100 ms, for 8 s", called="loss",
+      given=(lambda net: net.set_way("*", "*", 0.2, 20, 80), 8))
+@case("half of what nodes send to senders is lost for 7 s", called="confirmations_lost",
+      given=(lambda net: net.set_way(NODES, SENDERS, 0.5),))
+@case("senders are 1.3 s from the nodes for 14 s", gap=25, made={"seconds": 20}, called="far_senders",
+      given=(lambda net: net.set_both_ways(SENDERS, NODES, 0, 1300), 14))
+def network_hurt(world, hurt, seconds=7):
+    hurt(world.network)
+    time.sleep(seconds)
 
 
 @case("senders have 1 Mbit/s for 30 s, with a backlog of 1,440 texts of 1,000 bytes",
@@ -190,7 +160,7 @@ def leader_stopped(world):
 def alone_cut_from_peers(world):
     """The receiver may stay connected to the leader."""
     world.stop("r1")
-    leader_cut_from_peers(world)
+    leader_cut(world, machines.Network.cut)
 
 
 @case("one receiver alone; a leader is stopped for 6 s")
@@ -285,18 +255,14 @@ def shared_killed(world):
     require_all_rise(world, 6)
 
 
-@case("receivers share shards; the machine of one is cut off for 28 s", made=SHARED | {"seconds": 34})
-def shared_lost(world):
-    """Its locks end with its connection, which the database gives up."""
-    world.network.isolate("r0")
-    time.sleep(20)
-    require_all_rise(world, 8)
-
-
-@case("receivers share shards; one is stopped for 28 s", made=SHARED | {"seconds": 34})
-def shared_stopped(world):
-    """Its locks end since it says nothing. When it wakes, it serves its part again."""
-    world.signal(["r0"], signal.SIGSTOP)
+@case("receivers share shards; the machine of one is cut off for 28 s", made=SHARED | {"seconds": 34},
+      called="shared_lost", given=(lambda world: world.network.isolate("r0"),))
+@case("receivers share shards; one is stopped for 28 s", made=SHARED | {"seconds": 34}, called="shared_stopped",
+      given=(lambda world: world.signal(["r0"], signal.SIGSTOP),))
+def shared_silent(world, silence):
+    """Its locks end with its connection, which the database gives up, or since it says nothing. When it wakes, it
+    serves its part again."""
+    silence(world)
     time.sleep(20)
     require_all_rise(world, 8)
     world.signal(["r0"], signal.SIGCONT)
@@ -383,17 +349,13 @@ def sync(world, nodes):
     time.sleep(6)
 
 
-@case("a node loses power 6 s after its disk was synced", made={"disks": {"n0": "image"}, "rate": 600})
-def power_of_one(world):
-    sync(world, NODES[:1])
-    lose_power(world, NODES[:1])
-
-
+@case("a node loses power 6 s after its disk was synced", made={"disks": {"n0": "image"}, "rate": 600},
+      called="power_of_one", given=(NODES[:1], NODES[:1]))
 @case("two nodes lose power 6 s after their disks were synced", 120, 25, UNSYNCED, BROKEN,
-      made={"disks": IMAGES, "rate": 600})
-def power_of_two(world):
-    sync(world, NODES)
-    lose_power(world, NODES[:2])
+      made={"disks": IMAGES, "rate": 600}, called="power_of_two", given=(NODES, NODES[:2]))
+def power_of_some(world, synced, nodes):
+    sync(world, synced)
+    lose_power(world, nodes)
 
 
 @case("all nodes lose power, over file systems that are mounted sync", 120, 60, KILLED, BROKEN,
