@@ -389,10 +389,7 @@ class World:
 
     def ask(self, sql):
         """The rows of an answer, by way of a socket that no network cuts."""
-        done = subprocess.run(["psql", "-qAtF", "\t", "-h", f"{self.folder}/socket", "-U", "postgres",
-                               "-c", sql, "postgres"], check=True, stdout=subprocess.PIPE,
-                              stderr=subprocess.DEVNULL, text=True, timeout=PATIENCE)
-        return [line.split("\t") for line in done.stdout.splitlines()]
+        return engines.ask(f"postgresql://postgres@/postgres?host={self.folder}/socket", sql, PATIENCE)
 
     def ask_node(self, node, what, *more):
         """What a node says of a shard's stream (jetstream.py); None if the answer isn't whole."""

@@ -37,6 +37,17 @@ def deliver_until_receipts(place, rows, count):
     place.end(receiver)
 
 
+def lose_carrier(place, rows_of, seconds):
+    """Both ends are killed and the carrier's file is deleted, over and over, amid the rows of each turn."""
+    place.put([])
+    for turn in range(LOSSES):
+        place.put(rows_of(turn))
+        running = place.start("sender"), place.start("receiver", batch="16")
+        time.sleep(seconds)
+        place.kill(*running)
+        place.unlink("carrier")
+
+
 @case("frames are kept until their receipt", {"ann": 50}, 10)
 def receipts_free_frames(place):
     """And not until they are carried alone."""
@@ -67,13 +78,8 @@ def receipts_tell_texts(place):
 @case("the carrier's file is deleted, three times", {"ann": 3000, "tom": 3000}, 30, (WITH_RECEIPTS, TOM))
 def receipts_carrier_lost(place):
     """At any moment, with all that it has confirmed."""
-    place.put([])
-    for turn in range(LOSSES):
-        place.put(texts("ann", 1000 * turn, 1000 * (turn + 1)) + texts("tom", 1000 * turn, 1000 * (turn + 1)))
-        running = place.start("sender"), place.start("receiver", batch="16")
-        time.sleep(0.25)
-        place.kill(*running)
-        place.unlink("carrier")
+    lose_carrier(place, lambda turn: [row for name in ("ann", "tom")
+                                      for row in texts(name, 1000 * turn, 1000 * (turn + 1))], 0.25)
     relay_once(place)
     place.await_no_frames()
 

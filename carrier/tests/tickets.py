@@ -864,13 +864,7 @@ def opening_anew(place):
 @case("the carrier's file is deleted, three times", {"orders": 600, "bills": 600}, 30)
 def carrier_lost(place):
     """Both ends are killed then, amid texts."""
-    place.put([])
-    for turn in range(receipts.LOSSES):
-        place.put(streams_of(place, 200 * (turn + 1), 200 * turn))
-        running = place.start("sender"), place.start("receiver", batch="16")
-        time.sleep(0.3)
-        place.kill(*running)
-        place.unlink("carrier")
+    receipts.lose_carrier(place, lambda turn: streams_of(place, 200 * (turn + 1), 200 * turn), 0.3)
     place.relay()
     place.await_no_frames()
 
