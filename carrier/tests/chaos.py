@@ -27,6 +27,8 @@ import time
 
 import engines
 import errors
+import evidence
+import jetstream
 import loglines
 from lib import jobs, printed
 
@@ -478,15 +480,22 @@ class Trial:
             except subprocess.TimeoutExpired:
                 self.faults.append("replay hasn't ended")
 
+    def carried(self):
+        """All frames that the shards have, each with its session."""
+        if self.nats:
+            return [(name, frame) for shard in range(self.given.shards)
+                    for _, name, frame in jetstream.frames(self.nats.ports[0], shard, patience=DUMPED)]
+        with errors.opened(self.where.removeprefix("sqlite:")) as file:
+            return file.execute("SELECT session, frame FROM carried ORDER BY shard, offset").fetchall()
+
     def check_shards(self):
         """Looks at all frames that the shards have."""
-        done = subprocess.run([f"{self.given.programs}/dump", *self.options()], check=True,
-                              stdout=subprocess.PIPE, text=True, timeout=DUMPED)
-        frames, seen = collections.defaultdict(list), {}
-        for line in done.stdout.splitlines():
-            _, _, name, number, digits = (line + " ").split(" ")[:5]
-            frames[name].append((number, bytes.fromhex(digits)))
-            if number != "-" and seen.setdefault((name, number), digits) != digits:
+        carried, frames, seen = self.carried(), collections.defaultdict(list), {}
+        numbers = evidence.numbers_of([(name, frame.hex()) for name, frame in carried],
+                                      f"{self.given.programs}/numbers", f"{self.folder}/sessions")
+        for (name, frame), number in zip(carried, numbers):
+            frames[name].append((number, frame))
+            if number != "-" and seen.setdefault((name, number), frame) != frame:
                 self.faults.append(f"audit: {name}: two frames left as number {number}")
         self.counts["frames"] = len(seen)
         self.counts["frames in the shards"] = sum(map(len, frames.values()))
