@@ -2,11 +2,11 @@
 looks whether each text of each session took effect once and in order.
 
 An application puts texts into the outboxes. Each shard is served by two receivers at once, which
-both believe that it is theirs; or receivers share the shards. Meanwhile a receiver or a sender is killed (SIGKILL) and started
-again, or stopped for a while so that it wakes beside its successor; a second sender takes an outbox
-over; of three nodes of JetStream one is killed and started again; `noise` publishes frames of the
-shards again, whole or altered, and bytes that are no frame. At last all runs undisturbed until each
-session's close took effect. Then
+both believe that it is theirs; or receivers share the shards. Meanwhile a receiver or a sender is
+killed (SIGKILL) and started again, or stopped for a while so that it wakes beside its successor; a
+second sender takes an outbox over; of three nodes of JetStream one is killed and started again;
+frames of the shards are published again, whole or altered, and bytes that are no frame. At last all
+runs undisturbed until each session's close took effect. Then
 
 - the effects of each session have to be its texts in order, each once, and its close;
 - a receiver that begins with nothing has to read the same from the carrier (`replay`);
@@ -18,7 +18,6 @@ import dataclasses
 import glob
 import os
 import random
-import re
 import signal
 import sqlite3
 import subprocess
@@ -39,6 +38,7 @@ KINDS = (["receiver"] * 4 + ["sender"] * 3 + ["stop receiver", "stop sender", "s
 TAKEN = "200"       # frames of one transaction: few, so that many are under way when one is killed
 DUMPED = 120        # seconds for one look at all shards
 SILENT = {"stdout": subprocess.DEVNULL, "stderr": subprocess.DEVNULL}
+RATE, NOISY = 300, 16       # frames a second that are published again, and so many at once
 FRAMES, BYTES = 2000, 7_000_000     # the most frames of a job, and of their bytes
 
 
@@ -305,6 +305,63 @@ class Disturber:
             self.processes.start(name)
 
 
+class Noise:
+    """Takes frames that a shard has, and publishes them again, whole, or changed, cut, or under another session's name;
+    or bytes that are no frame. Nothing of it may have an effect."""
+
+    def __init__(self, given, sessions, path, nats):
+        self.given, self.sessions, self.path, self.nats = given, sessions, path, nats
+        self.dice, self.connection, self.is_over = random.Random(given.seed + 2), None, False
+        self.counts = collections.Counter()
+
+    def run(self, until):
+        while time.monotonic() < until and not ENDING.is_set():
+            shard, had = self.dice.randrange(self.given.shards), 0
+            try:
+                had = self.disturb_stream(shard) if self.nats else self.disturb_file(shard)
+            except (OSError, sqlite3.Error):        # a node is away, or there is no frame yet
+                self.connection = None
+            time.sleep(had / RATE or 0.01)
+        self.is_over = bool(self.counts)
+
+    def disturb_file(self, shard):
+        """Some frames from a drawn place of a shard on: so many."""
+        with errors.opened(self.path) as file:
+            end = file.execute("SELECT max(offset) FROM carried").fetchone()[0]
+            rows = file.execute("SELECT session, frame FROM carried WHERE shard = ? AND offset >= ? LIMIT ?",
+                                (shard, self.dice.randrange(end or 1), NOISY)).fetchall()
+            file.executemany("INSERT INTO carried (shard, session, frame) VALUES (?, ?, ?)",
+                             [(shard, *self.altered(*it)) for it in rows])
+        return len(rows)
+
+    def disturb_stream(self, shard):
+        if not self.connection:
+            self.connection = jetstream.Connection(self.dice.choice(self.nats.ports))
+            self.connection.subscribe(jetstream.INBOX)
+        offsets = self.connection.offsets(shard)
+        begin = self.dice.randrange(len(offsets) or 1)
+        frames = [self.connection.frame_at(shard, it) for it in offsets[begin:begin + NOISY]]
+        for frame in filter(None, frames):
+            name, altered = self.altered(*frame)
+            self.connection.publish(f"krb.{shard}.{name}", altered)
+        return len(frames)
+
+    def altered(self, name, frame):
+        """What is published of a frame, most often itself."""
+        kind, place = self.dice.randrange(8), self.dice.randrange(len(frame) or 1)
+        self.counts["altered by noise" if kind < 4 else "repeated by noise"] += 1
+        if kind == 0:
+            changed = bytes(it ^ self.dice.randrange(1, 256) for it in frame[place:place + 1])
+            frame = frame[:place] + changed + frame[place + 1:]
+        elif kind == 1:
+            name = self.dice.choice(self.sessions).name
+        elif kind == 2:
+            frame = frame[:place]
+        elif kind == 3:
+            frame = self.dice.randbytes(len(frame))
+        return name, frame
+
+
 # ---- the trial
 
 def wait(is_so, processes, counts, seconds):
@@ -352,10 +409,6 @@ class Trial:
         return [f"{self.given.programs}/receiver", "--sessions", f"{self.folder}/sessions", "--store", store,
                 *self.processes.common, "--shards", ",".join(map(str, range(self.given.shards)))]
 
-    def options(self):
-        return ["--carrier", self.where, "--sessions", f"{self.folder}/sessions", "--shards",
-                str(self.given.shards), "--replicas", str(self.replicas)]
-
     def run(self):
         """Returns whether all went right."""
         try:
@@ -386,27 +439,17 @@ class Trial:
         until = time.monotonic() + given.seconds + 1
         threads = [threading.Thread(target=feeder.run),
                    threading.Thread(target=disturber.run, args=(until,))]
-        noise = subprocess.Popen([f"{given.programs}/noise", *self.options(), "--seed",
-                                  str(given.seed), "--seconds", str(given.seconds)],
-                                 stdout=subprocess.PIPE, stderr=subprocess.PIPE, text=True)
+        noise = Noise(given, self.sessions, self.where.removeprefix("sqlite:"), self.nats)
+        threads.append(threading.Thread(target=noise.run, args=(until - 1,)))
         for thread in threads:
             thread.start()
         while any(thread.is_alive() for thread in threads):
             self.processes.tend(self.counts)
             time.sleep(0.2)
-        self.counts += disturber.counts
-        self.count_noise(noise)
+        self.counts += disturber.counts + noise.counts
+        if not noise.is_over:
+            self.faults.append("a run whose noise has ended before has tested less than it says")
         self.await_whole(feeder)
-
-    def count_noise(self, noise):
-        """A run whose noise ended before it told its counts has tested less than it says."""
-        told, log = noise.communicate(timeout=60)
-        found = re.search(r"(\d+) repeats, (\d+) altered", told)
-        if found:
-            self.counts["repeated by noise"] = int(found[1])
-            self.counts["altered by noise"] = int(found[2])
-        else:
-            self.faults.append(f"noise ended with {noise.returncode}: {log[-4000:].strip()}")
 
     def await_whole(self, feeder):
         for name in self.processes.of_kind("sender"):

@@ -73,6 +73,20 @@ class Connection:
         return json.loads(answer)
 
 
+    def offsets(self, shard):
+        """Where the stream of a shard may have frames."""
+        state = member(self.ask(f"$JS.API.STREAM.INFO.KRB_{shard}"), "state")
+        return range(max(1, state["first_seq"]), state["last_seq"] + 1)     # 0: it is empty
+
+    def frame_at(self, shard, offset):
+        """The session and the frame there, or None."""
+        answer = self.ask(f"$JS.API.STREAM.MSG.GET.KRB_{shard}", b'{"seq":%d}' % offset)
+        if answer.get("error", {}).get("err_code") == NOT_THERE:
+            return None
+        message = member(answer, "message")
+        return message["subject"].rsplit(".", 1)[1], base64.b64decode(message.get("data", ""))
+
+
 def request(port, subject, host="127.0.0.1", patience=PATIENCE, **body):
     """What JetStream answers to one request of its interface."""
     with contextlib.closing(Connection(port, host, patience)) as connection:
@@ -106,14 +120,10 @@ def frames(port, shard, host="127.0.0.1", patience=PATIENCE):
     found = []
     with contextlib.closing(Connection(port, host, patience)) as connection:
         connection.subscribe(INBOX)
-        state = member(connection.ask(f"$JS.API.STREAM.INFO.KRB_{shard}"), "state")
-        for offset in range(max(1, state["first_seq"]), state["last_seq"] + 1):   # 0: it is empty
-            answer = connection.ask(f"$JS.API.STREAM.MSG.GET.KRB_{shard}", b'{"seq":%d}' % offset)
-            if answer.get("error", {}).get("err_code") == NOT_THERE:
-                continue
-            message = member(answer, "message")
-            found.append((offset, message["subject"].rsplit(".", 1)[1],
-                          base64.b64decode(message.get("data", ""))))
+        for offset in connection.offsets(shard):
+            frame = connection.frame_at(shard, offset)
+            if frame:
+                found.append((offset, *frame))
     return found
 
 
