@@ -48,16 +48,6 @@ def lose_carrier(place, rows_of, seconds):
         place.unlink("carrier")
 
 
-@case("frames are kept until their receipt", {"ann": 50}, 10)
-def receipts_free_frames(place):
-    """And not until they are carried alone."""
-    place.send(texts("ann", 0, 50))
-    place.require(place.frames() == 50, f"the outbox keeps {place.frames()} frames of 50")
-    place.relay()
-    place.await_no_frames()
-    place.require(done(place, "ann") == 51, f"done below {done(place, 'ann')}")
-
-
 @case("an application learns which of its texts took effect", {"ann": 20}, 10)
 def receipts_tell_texts(place):
     """A text is in `text`, then in `sealed` with its number and part, and then in neither."""
