@@ -31,23 +31,18 @@ NOTHING = {
 # Functions of carrier/ that log a fault, and answer always the same, for a caller to return.
 REPORTS = {"report", "nats_report", "postgresql_report", "refuse"}
 
-TOKEN = re.compile(r"""(?P<comment>/\*.*?\*/|//[^\n]*)|(?P<line>^[ \t]*\#(?:\\\n|[^\n])*)
-    |(?P<text>"(?:\\.|[^"\\])*"|'(?:\\.|[^'\\])*')|(?P<word>[A-Za-z_]\w*)|(?P<number>\d[\w.]*)
-    |(?P<sign>->|\+\+|--|[-+*/%&|^]=|<<=|>>=|<=|>=|==|!=|&&|\|\||<<|>>|\S)""",
-                   re.X | re.S | re.M)
-ASSIGNS = {"=", "+=", "-=", "*=", "/=", "%=", "&=", "|=", "^=", "<<=", ">>=", "++", "--"}
-JUMPS = {"return", "break", "continue", "goto"}
-TYPES = {"struct", "enum", "union", "static", "const", "unsigned", "int", "char", "void", "size_t",
-         "extern", "long", "double", "typedef", "va_list", "time_t", "ssize_t"}
-
-
-def tokens_of(text):
-    """The tokens as (kind, text, line); preprocessor lines are left out."""
-    found = []
-    for it in TOKEN.finditer(text):
-        if it.lastgroup != "line":
-            found.append((it.lastgroup, it.group(), text.count("\n", 0, it.start()) + 1))
-    return found
+# What says nothing of a statement's form: comments, preprocessor lines, and what is in quotes.
+LEFT_OUT = re.compile(r"""/\*.*?\*/|//[^\n]*|^[ \t]*\#(?:\\\n|[^\n])*|"(?:\\.|[^"\\])*"|'(?:\\.|[^'\\])*'""",
+                      re.M | re.S)
+GROUP = re.compile(r"\([^()]*\)|\[[^\[\]]*\]")
+LITERAL = re.compile(r"@\{(?:[^{}]|\{[^{}]*\})*\}")       # of a struct, after its type
+# What may stand before a statement, of which all in parentheses is one sign.
+BEFORE = re.compile(r"(?:\s|\b(?:if|for|while|switch)\b\s*@|\b(?:else|do)\b|\bcase\b[^:]*:|\bdefault\s*:)*")
+JUMP = re.compile(r"(?:return|break|continue|goto)\b")
+DECLARATION = re.compile(r"(?:struct|enum|union|static|const|unsigned|int|char|void|size_t|extern|long|double|typedef"
+                         r"|va_list|time_t|ssize_t)\b|\w+\s+\w|\w+\s*\*\s*\w")
+ASSIGNMENT = re.compile(r"(?<![=!<>])=(?!=)|<<=|>>=|\+\+|--")
+CALL = re.compile(r"(?:\w+(?:->|\.))*(\w+)\s*@")
 
 
 def void_functions(texts):
@@ -59,91 +54,32 @@ def void_functions(texts):
     return found
 
 
-def end_of_group(tokens, at):
-    """The place after the parentheses that begin there."""
-    depth = 0
-    while True:
-        depth += {"(": 1, ")": -1}.get(tokens[at][1], 0)
-        at += 1
-        if depth == 0:
-            return at
+def lines_of(text):
+    return "\n" * text.count("\n")
 
 
-def is_head(tokens):
-    """Whether these are a function's before its body, not a value's, a struct's or an enum's."""
-    return tokens[-1][1] == ")" and tokens[0][1] not in JUMPS and "=" not in [it[1] for it in tokens]
+def statements(text):
+    """Each simple statement, with its first line and its last. A group in parentheses is `@`, and `(void)` is `$`."""
+    code = LEFT_OUT.sub(lambda it: '""' * (it[0][0] in "\"'") + lines_of(it[0]), text).replace("(void)", "$")
+    before = None
+    while before != code:
+        before, code = code, GROUP.sub(lambda it: "@" * (it[0][0] == "(") + lines_of(it[0]), code)
+    code = LITERAL.sub(lambda it: "@" + lines_of(it[0]), code)
+    for it in re.finditer(r"(\}[ \w]+)?([^;{}]*);", code):    # the name after a brace is of a struct's value
+        begin = it.start(2) + BEFORE.match(it[2]).end()
+        first = code.count("\n", 0, begin) + 1
+        yield code[begin:it.end() - 1].rstrip(), first, code.count("\n", 0, it.end()) + 1
 
 
-def statements(tokens):
-    """Each simple statement of a text, as its tokens."""
-    at, begin, depth = 0, 0, 0
-    while at < len(tokens):
-        word = tokens[at][1]
-        if at == begin and word in ("if", "for", "while", "switch"):
-            at = begin = end_of_group(tokens, at + 1)
-            continue
-        if at == begin and word in ("else", "do", "{", "}", ";"):
-            at = begin = at + 1
-            continue
-        if at == begin and word in ("case", "default"):
-            while tokens[at][1] != ":":
-                at += 1
-            at = begin = at + 1
-            continue
-        depth += {"(": 1, ")": -1}.get(word, 0)
-        if word == "{" and depth == 0 and is_head(tokens[begin:at]):
-            at = begin = at + 1     # the body of a function
-            continue
-        if word == "{":
-            depth += 1
-        elif word == "}" and depth > 0:
-            depth -= 1
-        at += 1
-        if word == ";" and depth == 0:
-            yield tokens[begin:at - 1]
-            begin = at
-
-
-def top_level(tokens):
-    """The tokens that stand in no parentheses."""
-    depth, found = 0, []
-    for it in tokens:
-        if it[1] in ")]}":
-            depth -= 1
-        if depth == 0:
-            found.append(it[1])
-        if it[1] in "([{":
-            depth += 1
-    return found
-
-
-def is_declaration(tokens):
-    first, second = tokens[0], tokens[1] if len(tokens) > 1 else ("", "", 0)
-    return first[1] in TYPES or first[0] == "word" and (
-        second[0] == "word" or second[1] == "*" and len(tokens) > 2 and tokens[2][0] == "word")
-
-
-def called(tokens):
-    """The function of a statement that is one call, or None."""
-    words = top_level(tokens)
-    if words[-2:] != ["(", ")"] or len(words) < 3 or not re.match(r"\w", words[-3]):
-        return None
-    before = words[:-3]
-    return words[-3] if all(re.fullmatch(r"\w+|->|\.|\[|\]", it) for it in before) else None
-
-
-def judge(tokens, may_ignore):
+def judge(statement, may_ignore):
     """What is wrong with a statement, or None."""
-    if tokens[0][1] in JUMPS or is_declaration(tokens):
+    if not statement or statement[0] == "$" or JUMP.match(statement) or DECLARATION.match(statement) \
+            or ASSIGNMENT.search(statement):
         return None
-    if ASSIGNS & set(top_level(tokens)):
-        return None
-    if [it[1] for it in tokens[:3]] == ["(", "void", ")"]:
-        return None
-    name = called(tokens)
-    if name is None:
+    call = CALL.fullmatch(re.sub(r"\s", "", statement))
+    if call is None:
         return "an expression that does nothing, or what it gives is ignored"
-    return None if name in may_ignore else f"the answer of {name} is ignored"
+    return None if call[1] in may_ignore else f"the answer of {call[1]} is ignored"
 
 
 def has_reason(lines, first, last):
@@ -154,17 +90,12 @@ def has_reason(lines, first, last):
 def faults_of(name, text, void):
     """Each ignored answer of a source, as a line that says where."""
     found, lines = [], text.splitlines()
-    tokens = [it for it in tokens_of(text) if it[0] != "comment"]
-    for statement in statements(tokens):
-        if not statement:
-            continue
-        line = statement[0][2]
+    for statement, first, last in statements(text):
         fault = judge(statement, void | NOTHING | REPORTS)
-        if fault is None and [it[1] for it in statement[:3]] == ["(", "void", ")"] \
-                and len(statement) > 4 and not has_reason(lines, line, statement[-1][2]):
+        if statement[:1] == "$" and not re.fullmatch(r"\$\s*\w+", statement) and not has_reason(lines, first, last):
             fault = "no comment says why this answer is ignored"
         if fault:
-            found.append(f"{name}:{line}: {fault}")
+            found.append(f"{name}:{first}: {fault}")
     return found
 
 

@@ -5,11 +5,11 @@ same size.
 Four senders bring the texts into the shards. Then 1, 2 and 4 receivers, a process each with one
 shard, take them, 1,024 frames a transaction: `shards` is a SQLite file for each receiver.
 """
+import contextlib
 import glob
 import os
 import random
 import shutil
-import sqlite3
 import subprocess
 import sys
 import time
@@ -42,13 +42,12 @@ def fill_outboxes(programs, folder, carrier, replicas):
     at_once([sender(programs, folder, carrier, replicas, it) for it in range(SHARDS)])
     for shard in range(SHARDS):
         names = [f"s{it:04}" for it in range(SESSIONS) if it % SHARDS == shard]
-        file = sqlite3.connect(f"{folder}/outbox{shard}.db")
-        with file:
+        with errors.opened(f"{folder}/outbox{shard}.db") as file:
             file.executemany("INSERT INTO text (session, body) VALUES (?, ?)",
                              [(names[it % len(names)], b"x" * BYTES)
                               for it in range(TEXTS // SHARDS)] + [(name, None) for name in names])
-        file.execute("PRAGMA wal_checkpoint(TRUNCATE)")
-        file.close()
+        with errors.opened(f"{folder}/outbox{shard}.db") as file:
+            file.execute("PRAGMA wal_checkpoint(TRUNCATE)")
 
 
 def at_once(commands):
@@ -60,7 +59,6 @@ def at_once(commands):
     if any(it.returncode for it in running):
         sys.exit("\n".join(texts)[-2000:] + "\ncarrier: a program failed")
     return time.monotonic() - began, texts
-
 
 
 def raw(programs, carrier, replicas, name):
@@ -110,22 +108,14 @@ def measure(programs, folder, carrier, replicas, name, postgres):
 
 def run(programs, new_folder):
     print(f"load of the machine: {os.getloadavg()[0]:.1f} on {os.cpu_count()} cores", flush=True)
-    postgres = engines.Postgres(new_folder())
-    try:
+    with contextlib.closing(engines.Postgres(new_folder())) as postgres:
         for nodes, name in ((1, "1 node"), (3, "3 nodes"), (0, "SQLite")):
             folder = new_folder()
             write_sessions(folder)
-            nats = engines.Nats(folder, nodes) if nodes else None
-            try:
+            with contextlib.closing(engines.Nats(folder, nodes)) if nodes else contextlib.nullcontext() as nats:
                 carrier = nats.where if nats else f"sqlite:{folder}/carrier.db"
-                measure(programs, folder, carrier, str(max(1, nodes)), name,
-                        postgres if nodes else None)
+                measure(programs, folder, carrier, str(max(1, nodes)), name, postgres if nodes else None)
                 for batch in BATCHES if nodes == 1 else ():
                     receive(programs, folder, carrier, name, "shards", 1, batch)
-            finally:
-                if nats:
-                    nats.stop()
             shutil.rmtree(folder)
-    finally:
-        postgres.stop()
     return 0

@@ -58,7 +58,7 @@ class Pair:
         self.outbox, self.store = sqlite3.connect(f"{folder}/outbox.db", timeout=30), Store(store)
         self.await_so(self.is_done)
 
-    def end(self):
+    def close(self):
         self.outbox.close()
         self.store.close()
         for it in self.processes:
@@ -129,17 +129,13 @@ def has_tables(store):
 
 def turn(programs, folder, sessions, is_bare, postgres):
     """Over a carrier and a store that are new."""
-    nats = engines.Nats(folder, 1) if postgres else None
     if postgres:
         postgres.ask("DROP SCHEMA public CASCADE; CREATE SCHEMA public")
-    pair = Pair(programs, folder, sessions, is_bare, nats.where if nats else f"sqlite:{folder}/carrier.db",
-                postgres.where if postgres else f"sqlite:{folder}/store.db")
-    try:
-        return measured(pair)
-    finally:
-        pair.end()
-        if nats:
-            nats.stop()
+    with contextlib.closing(engines.Nats(folder, 1)) if postgres else contextlib.nullcontext() as nats:
+        pair = Pair(programs, folder, sessions, is_bare, nats.where if nats else f"sqlite:{folder}/carrier.db",
+                    postgres.where if postgres else f"sqlite:{folder}/store.db")
+        with contextlib.closing(pair):
+            return measured(pair)
 
 
 def compare(programs, new_folder, postgres):
@@ -157,10 +153,7 @@ def run(programs, new_folder):
     print("| Over | Sessions | Loop | us a text, at once | one by one | ms until an effect: p50 | p99 |")
     print("|---|--:|---|--:|--:|--:|--:|")
     compare(programs, new_folder, None)
-    postgres = engines.Postgres(new_folder())
-    try:
+    with contextlib.closing(engines.Postgres(new_folder())) as postgres:
         compare(programs, new_folder, postgres)
-    finally:
-        postgres.stop()
     print(f"load of the machine: {os.getloadavg()[0]:.1f} on {os.cpu_count()} cores", flush=True)
     return 0

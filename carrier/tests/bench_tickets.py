@@ -1,5 +1,6 @@
 """Measures openings a second at a receiver, and what receipts cost in texts a second, over SQLite files
 and one process at each end."""
+import contextlib
 import os
 import random
 import sqlite3
@@ -18,9 +19,8 @@ RUNS = 3
 
 
 def put(path, rows):
-    with sqlite3.connect(path) as file:
+    with errors.opened(path) as file:
         file.executemany("INSERT INTO text (session, body) VALUES (?, ?)", rows)
-    file.close()
 
 
 def await_rows(path, count):
@@ -28,14 +28,9 @@ def await_rows(path, count):
     until = time.monotonic() + LIMIT
     while time.monotonic() < until:
         if os.path.exists(path):
-            file = sqlite3.connect(path, timeout=30)
-            try:
+            with contextlib.suppress(sqlite3.OperationalError), errors.opened(path) as file:   # no table yet
                 if file.execute("SELECT count(*) FROM effect").fetchone()[0] >= count:
                     return
-            except sqlite3.OperationalError:
-                pass    # its tables aren't made yet
-            finally:
-                file.close()
         time.sleep(0.02)
     raise RuntimeError(f"{path} hasn't {count} effects")
 
@@ -91,11 +86,10 @@ def both_ends(programs, folder, has_receipts):
     try:
         await_rows(ends.store.removeprefix("sqlite:"), TEXTS)
         took, learned = time.monotonic() - began, None
-        file = sqlite3.connect(ends.outbox, timeout=30)
-        while has_receipts and file.execute("SELECT count(*) FROM frame").fetchone()[0] > 0:
-            time.sleep(0.02)
+        with errors.opened(ends.outbox) as file:
+            while has_receipts and file.execute("SELECT count(*) FROM frame").fetchone()[0] > 0:
+                time.sleep(0.02)
         learned = time.monotonic() - began
-        file.close()
     finally:
         for process in running:
             process.terminate()
@@ -105,12 +99,9 @@ def both_ends(programs, folder, has_receipts):
 
 def run(programs, new_folder):
     print(f"load of the machine: {os.getloadavg()[0]:.1f} on {os.cpu_count()} cores", flush=True)
-    realm = realms.Realm(new_folder())
-    try:
+    with contextlib.closing(realms.Realm(new_folder())) as realm:
         for etype in (17, 18):
             openings(programs, new_folder(), realm, etype)
-    finally:
-        realm.stop()
     for turn in range(RUNS):
         for has_receipts in (False, True):
             took, learned = both_ends(programs, f"{new_folder()}/both", has_receipts)

@@ -2,11 +2,11 @@
 looks whether each text of each session took effect once and in order.
 
 An application puts texts into the outboxes. Each shard is served by two receivers at once, which
-both believe that it is theirs; or receivers share the shards. Meanwhile a receiver or a sender is killed (SIGKILL) and started
-again, or stopped for a while so that it wakes beside its successor; a second sender takes an outbox
-over; of three nodes of JetStream one is killed and started again; `noise` publishes frames of the
-shards again, whole or altered, and bytes that are no frame. At last all runs undisturbed until each
-session's close took effect. Then
+both believe that it is theirs; or receivers share the shards. Meanwhile a receiver or a sender is
+killed (SIGKILL) and started again, or stopped for a while so that it wakes beside its successor; a
+second sender takes an outbox over; of three nodes of JetStream one is killed and started again;
+frames of the shards are published again, whole or altered, and bytes that are no frame. At last all
+runs undisturbed until each session's close took effect. Then
 
 - the effects of each session have to be its texts in order, each once, and its close;
 - a receiver that begins with nothing has to read the same from the carrier (`replay`);
@@ -18,7 +18,6 @@ import dataclasses
 import glob
 import os
 import random
-import re
 import signal
 import sqlite3
 import subprocess
@@ -26,6 +25,9 @@ import threading
 import time
 
 import engines
+import errors
+import evidence
+import jetstream
 import loglines
 from lib import jobs, printed
 
@@ -35,6 +37,8 @@ KINDS = (["receiver"] * 4 + ["sender"] * 3 + ["stop receiver", "stop sender", "s
          + ["node"] * 2)
 TAKEN = "200"       # frames of one transaction: few, so that many are under way when one is killed
 DUMPED = 120        # seconds for one look at all shards
+SILENT = {"stdout": subprocess.DEVNULL, "stderr": subprocess.DEVNULL}
+RATE, NOISY = 300, 16       # frames a second that are published again, and so many at once
 FRAMES, BYTES = 2000, 7_000_000     # the most frames of a job, and of their bytes
 
 
@@ -106,11 +110,6 @@ class Session:
     def lines(self):
         """What `krbrelay open` has to print beside refusals."""
         return [f"lane 0 text {text.hex()}" for text in self.texts] + ["lane 0 closed"]
-
-
-def write_sessions(path, sessions):
-    with open(os.open(path, os.O_WRONLY | os.O_CREAT, 0o600), "w", encoding="ascii") as file:
-        file.writelines(it.line() for it in sessions)
 
 
 # ---- the programs
@@ -233,10 +232,8 @@ class Feeder:
     def has_none(self, *kinds):
         left = 0
         for path in self.paths:
-            file = sqlite3.connect(path, timeout=30)
-            for rows in kinds:
-                left += file.execute(f"SELECT count(*) FROM {rows}").fetchone()[0]
-            file.close()
+            with errors.opened(path) as file:
+                left += sum(file.execute(f"SELECT count(*) FROM {rows}").fetchone()[0] for rows in kinds)
         return left == 0
 
 
@@ -308,6 +305,63 @@ class Disturber:
             self.processes.start(name)
 
 
+class Noise:
+    """Takes frames that a shard has, and publishes them again, whole, or changed, cut, or under another session's name;
+    or bytes that are no frame. Nothing of it may have an effect."""
+
+    def __init__(self, given, sessions, path, nats):
+        self.given, self.sessions, self.path, self.nats = given, sessions, path, nats
+        self.dice, self.connection, self.is_over = random.Random(given.seed + 2), None, False
+        self.counts = collections.Counter()
+
+    def run(self, until):
+        while time.monotonic() < until and not ENDING.is_set():
+            shard, had = self.dice.randrange(self.given.shards), 0
+            try:
+                had = self.disturb_stream(shard) if self.nats else self.disturb_file(shard)
+            except (OSError, sqlite3.Error):        # a node is away, or there is no frame yet
+                self.connection = None
+            time.sleep(had / RATE or 0.01)
+        self.is_over = bool(self.counts)
+
+    def disturb_file(self, shard):
+        """Some frames from a drawn place of a shard on: so many."""
+        with errors.opened(self.path) as file:
+            end = file.execute("SELECT max(offset) FROM carried").fetchone()[0]
+            rows = file.execute("SELECT session, frame FROM carried WHERE shard = ? AND offset >= ? LIMIT ?",
+                                (shard, self.dice.randrange(end or 1), NOISY)).fetchall()
+            file.executemany("INSERT INTO carried (shard, session, frame) VALUES (?, ?, ?)",
+                             [(shard, *self.altered(*it)) for it in rows])
+        return len(rows)
+
+    def disturb_stream(self, shard):
+        if not self.connection:
+            self.connection = jetstream.Connection(self.dice.choice(self.nats.ports))
+            self.connection.subscribe(jetstream.INBOX)
+        offsets = self.connection.offsets(shard)
+        begin = self.dice.randrange(len(offsets) or 1)
+        frames = [self.connection.frame_at(shard, it) for it in offsets[begin:begin + NOISY]]
+        for frame in filter(None, frames):
+            name, altered = self.altered(*frame)
+            self.connection.publish(f"krb.{shard}.{name}", altered)
+        return len(frames)
+
+    def altered(self, name, frame):
+        """What is published of a frame, most often itself."""
+        kind, place = self.dice.randrange(8), self.dice.randrange(len(frame) or 1)
+        self.counts["altered by noise" if kind < 4 else "repeated by noise"] += 1
+        if kind == 0:
+            changed = bytes(it ^ self.dice.randrange(1, 256) for it in frame[place:place + 1])
+            frame = frame[:place] + changed + frame[place + 1:]
+        elif kind == 1:
+            name = self.dice.choice(self.sessions).name
+        elif kind == 2:
+            frame = frame[:place]
+        elif kind == 3:
+            frame = self.dice.randbytes(len(frame))
+        return name, frame
+
+
 # ---- the trial
 
 def wait(is_so, processes, counts, seconds):
@@ -333,10 +387,12 @@ class Trial:
         self.where, self.replicas = f"sqlite:{self.folder}/carrier.db", 1
         self.store = {"sqlite": f"sqlite:{self.folder}/receiver.db",
                       "shards": f"sqlite:{self.folder}/receiver%.db"}.get(given.store)
-        write_sessions(f"{self.folder}/sessions", self.sessions)
+        self.write_sessions("", lambda it: True)
         for sender in range(given.senders):
-            write_sessions(f"{self.folder}/sessions{sender}",
-                           [it for it in self.sessions if it.sender == sender])
+            self.write_sessions(sender, lambda it, wanted=sender: it.sender == wanted)
+
+    def write_sessions(self, name, is_wanted):
+        errors.Ends.write(f"{self.folder}/sessions{name}", [it.line() for it in self.sessions if is_wanted(it)])
 
     def start_engines(self):
         if self.given.carrier != "sqlite":
@@ -348,9 +404,10 @@ class Trial:
             self.store = self.postgres.where
         self.processes = Processes(self.given, self.where, self.replicas, self.store, self.folder)
 
-    def options(self):
-        return ["--carrier", self.where, "--sessions", f"{self.folder}/sessions", "--shards",
-                str(self.given.shards), "--replicas", str(self.replicas)]
+    def receiver(self, store):
+        """A receiver of all shards, with this store."""
+        return [f"{self.given.programs}/receiver", "--sessions", f"{self.folder}/sessions", "--store", store,
+                *self.processes.common, "--shards", ",".join(map(str, range(self.given.shards)))]
 
     def run(self):
         """Returns whether all went right."""
@@ -369,8 +426,7 @@ class Trial:
         """Each outbox is made before the first text: a sender with nothing to do ends."""
         for it in range(self.given.senders):
             subprocess.run([f"{self.given.programs}/sender", *self.processes.common,
-                            *self.processes.words("sender", it), "--drain"], check=True,
-                           stdout=subprocess.DEVNULL, stderr=subprocess.DEVNULL, timeout=60)
+                            *self.processes.words("sender", it), "--drain"], check=True, timeout=60, **SILENT)
         for kind, count in (("sender", self.given.senders), ("receiver", self.given.receivers)):
             for it in range(count):
                 self.processes.start(f"{kind}-{it}")
@@ -383,27 +439,17 @@ class Trial:
         until = time.monotonic() + given.seconds + 1
         threads = [threading.Thread(target=feeder.run),
                    threading.Thread(target=disturber.run, args=(until,))]
-        noise = subprocess.Popen([f"{given.programs}/noise", *self.options(), "--seed",
-                                  str(given.seed), "--seconds", str(given.seconds)],
-                                 stdout=subprocess.PIPE, stderr=subprocess.PIPE, text=True)
+        noise = Noise(given, self.sessions, self.where.removeprefix("sqlite:"), self.nats)
+        threads.append(threading.Thread(target=noise.run, args=(until - 1,)))
         for thread in threads:
             thread.start()
         while any(thread.is_alive() for thread in threads):
             self.processes.tend(self.counts)
             time.sleep(0.2)
-        self.counts += disturber.counts
-        self.count_noise(noise)
+        self.counts += disturber.counts + noise.counts
+        if not noise.is_over:
+            self.faults.append("a run whose noise has ended before has tested less than it says")
         self.await_whole(feeder)
-
-    def count_noise(self, noise):
-        """A run whose noise ended before it told its counts has tested less than it says."""
-        told, log = noise.communicate(timeout=60)
-        found = re.search(r"(\d+) repeats, (\d+) altered", told)
-        if found:
-            self.counts["repeated by noise"] = int(found[1])
-            self.counts["altered by noise"] = int(found[2])
-        else:
-            self.faults.append(f"noise ended with {noise.returncode}: {log[-4000:].strip()}")
 
     def await_whole(self, feeder):
         for name in self.processes.of_kind("sender"):
@@ -420,10 +466,7 @@ class Trial:
     def has_receipts(self, feeder):
         """Whether the senders learn of all effects. A receipt may be lost: so a receiver stays that
         seals it again, as those that have ended since all is closed don't."""
-        command = [f"{self.given.programs}/receiver", "--sessions", f"{self.folder}/sessions",
-                   "--store", self.store, *self.processes.common, "--shards",
-                   ",".join(map(str, range(self.given.shards)))]
-        receiver = subprocess.Popen(command, stdout=subprocess.DEVNULL, stderr=subprocess.DEVNULL)
+        receiver = subprocess.Popen(self.receiver(self.store), **SILENT)
         try:
             return wait(feeder.is_empty, self.processes, self.counts, self.given.patience)
         finally:
@@ -451,11 +494,10 @@ class Trial:
             return rows, {name: (int(number), int(closed)) for name, number, closed in ends}
         rows, ends = [], {}
         for path in glob.glob(store[len("sqlite:"):].replace("%", "*")):
-            file = sqlite3.connect(path)
-            rows += file.execute("SELECT session, number, text FROM effect ORDER BY id")
-            ends |= {name: (number, closed) for name, number, closed in
-                     file.execute("SELECT name, next, closed FROM session")}
-            file.close()
+            with errors.opened(path) as file:
+                rows += file.execute("SELECT session, number, text FROM effect ORDER BY id")
+                ends |= {name: (number, closed) for name, number, closed in
+                         file.execute("SELECT name, next, closed FROM session")}
         return rows, ends
 
     def check_effects(self, store, what):
@@ -472,28 +514,31 @@ class Trial:
         self.counts["texts"] = sum(map(len, effects.values()))
 
     def replay(self, store):
-        command = [f"{self.given.programs}/receiver", "--sessions", f"{self.folder}/sessions",
-                   "--store", store, *self.processes.common, "--until-closed", "--shards",
-                   ",".join(map(str, range(self.given.shards)))]
+        command = [*self.receiver(store), "--until-closed"]
         until = time.monotonic() + DUMPED
         status = None
         while status != 0 and time.monotonic() < until:     # after a fault it is started again
             try:
-                status = subprocess.run(command, check=False, timeout=DUMPED,
-                                        stdout=subprocess.DEVNULL,
-                                        stderr=subprocess.DEVNULL).returncode
+                status = subprocess.run(command, check=False, timeout=DUMPED, **SILENT).returncode
             except subprocess.TimeoutExpired:
                 self.faults.append("replay hasn't ended")
 
+    def carried(self):
+        """All frames that the shards have, each with its session."""
+        if self.nats:
+            return [(name, frame) for shard in range(self.given.shards)
+                    for _, name, frame in jetstream.frames(self.nats.ports[0], shard, patience=DUMPED)]
+        with errors.opened(self.where.removeprefix("sqlite:")) as file:
+            return file.execute("SELECT session, frame FROM carried ORDER BY shard, offset").fetchall()
+
     def check_shards(self):
         """Looks at all frames that the shards have."""
-        done = subprocess.run([f"{self.given.programs}/dump", *self.options()], check=True,
-                              stdout=subprocess.PIPE, text=True, timeout=DUMPED)
-        frames, seen = collections.defaultdict(list), {}
-        for line in done.stdout.splitlines():
-            _, _, name, number, digits = (line + " ").split(" ")[:5]
-            frames[name].append((number, bytes.fromhex(digits)))
-            if number != "-" and seen.setdefault((name, number), digits) != digits:
+        carried, frames, seen = self.carried(), collections.defaultdict(list), {}
+        numbers = evidence.numbers_of([(name, frame.hex()) for name, frame in carried],
+                                      f"{self.given.programs}/numbers", f"{self.folder}/sessions")
+        for (name, frame), number in zip(carried, numbers):
+            frames[name].append((number, frame))
+            if number != "-" and seen.setdefault((name, number), frame) != frame:
                 self.faults.append(f"audit: {name}: two frames left as number {number}")
         self.counts["frames"] = len(seen)
         self.counts["frames in the shards"] = sum(map(len, frames.values()))

@@ -8,16 +8,16 @@ import dataclasses
 import os
 import random
 import signal
-import sqlite3
 import time
 import threading
 
+import cases
 import chaos
 import engines
+import errors
 import evidence
 import jetstream
 import loglines
-import repro
 import units
 
 UNITS = os.path.join(os.path.dirname(os.path.abspath(__file__)), "../systemd")
@@ -66,10 +66,14 @@ class Endurance:
     def write_sessions(self):
         lines = {name: f"{name} {self.shard_of(name)} 18 priv {int(name[1:]) + 1:064x} {FIRST}"
                        " 10.0.0.1 10.0.0.2\n" for name in self.names}
-        repro.Place.write(f"{self.folder}/sessions", lines.values())
-        for sender in range(SENDERS):
-            repro.Place.write(f"{self.folder}/sessions{sender}", [
-                line for name, line in lines.items() if self.sender_of(name) == sender])
+        for path, mine in self.files():
+            errors.Ends.write(path, [lines[it] for it in mine])
+
+    def files(self):
+        """Each file of sessions, and their names."""
+        return [(f"{self.folder}/sessions", self.names), *(
+            (f"{self.folder}/sessions{it}", [name for name in self.names if self.sender_of(name) == it])
+            for it in range(SENDERS))]
 
     def start(self):
         self.write_sessions()
@@ -88,10 +92,8 @@ class Endurance:
                                           f"{self.programs}/{kind}", given, self.folder, name)
             self.ports[name] = ports[place]
             self.units[name].start()
-        until = time.monotonic() + CAUGHT_UP
-        while not all(it.is_ready for it in self.units.values()) and time.monotonic() < until:
-            time.sleep(0.2)
-        self.require(all(it.is_ready for it in self.units.values()), "a unit isn't ready")
+        self.require(cases.Place.wait(lambda: all(it.is_ready for it in self.units.values()), CAUGHT_UP),
+                     "a unit isn't ready")
 
     def require(self, fine, what):
         if not fine:
@@ -103,10 +105,8 @@ class Endurance:
         """Puts texts into the outboxes of their sessions."""
         for sender in range(SENDERS):
             mine = [(name, text) for name, text in rows if self.sender_of(name) == sender]
-            file = sqlite3.connect(f"{self.folder}/outbox{sender}.db", timeout=60)
-            with file:
+            with errors.opened(f"{self.folder}/outbox{sender}.db") as file:
                 file.executemany("INSERT INTO text (session, body) VALUES (?, ?)", mine)
-            file.close()
             for name, text in mine:
                 if text is not None:
                     self.sent[name].append(text)
@@ -188,12 +188,11 @@ class Endurance:
 
     def do_sessions(self):
         """The files of sessions are replaced by others with the same sessions."""
-        for path in [f"{self.folder}/sessions", *(f"{self.folder}/sessions{it}"
-                                                  for it in range(SENDERS))]:
+        for path, _ in self.files():
             with open(path, encoding="ascii") as file:
                 lines = file.readlines()
             self.dice.shuffle(lines)
-            repro.Place.write(path + ".new", lines)
+            errors.Ends.write(path + ".new", lines)
             os.rename(path + ".new", path)
 
     # ---- metrics
@@ -209,7 +208,7 @@ class Endurance:
     def sample(self, moment):
         answered, lags, waiting = 0, {}, 0.0
         for port in self.ports.values():
-            status, text = repro.get(port, "/metrics")
+            status, text = cases.get(port, "/metrics")
             answered += status == 200
             for line in text.splitlines() if status == 200 else ():
                 if line.startswith(LAG):

@@ -71,10 +71,10 @@ def await_port(port):
         time.sleep(0.05)
 
 
-def ask(where, sql):
+def ask(where, sql, seconds=None):
     """The rows of PostgreSQL's answer, of columns without tabs."""
-    done = subprocess.run(["psql", "-qAtF", "\t", where, "-c", sql], check=True,
-                          stdout=subprocess.PIPE, stderr=subprocess.DEVNULL, text=True)
+    done = subprocess.run(["psql", "-qAtF", "\t", where, "-c", sql], check=True, stdout=subprocess.PIPE,
+                          stderr=subprocess.DEVNULL, text=True, timeout=seconds)
     return [line.split("\t") for line in done.stdout.splitlines()]
 
 
@@ -118,6 +118,8 @@ class Nats:
     def stop(self):
         for node in self.running:
             self.kill(node)
+
+    close = stop        # for contextlib.closing
 
 
 class Postgres:
@@ -178,3 +180,5 @@ class Postgres:
         if self.server.poll() is None:
             self.server.send_signal(signal.SIGQUIT)     # at once
             self.server.wait()
+
+    close = stop

@@ -124,14 +124,18 @@ def read_shard(ask, count, numbers, sessions):
     return Shard(takes, None, {})
 
 
+def numbers_of(frames, numbers, sessions):
+    """The number of each of these frames, which are pairs of a session and digits; "-" where it has none."""
+    told = iter(subprocess.run([numbers, sessions], check=True, stdout=subprocess.PIPE, text=True,
+                               input="".join(f"{name} {frame}\n" for name, frame in frames if frame),
+                               timeout=PATIENCE).stdout.splitlines())
+    return [next(told) if frame else "-" for _, frame in frames]
+
+
 def numbered(takes, frames, numbers, sessions):
-    told = subprocess.run([numbers, sessions], check=True, stdout=subprocess.PIPE, text=True,
-                          input="".join(f"{name} {frame}\n" for _, name, frame in frames if frame),
-                          timeout=PATIENCE).stdout.splitlines()
     it = Shard(takes, collections.defaultdict(lambda: collections.defaultdict(list)), {})
-    told = iter(told)
-    for offset, name, frame in frames:
-        number = next(told) if frame else "-"
+    told = numbers_of([frame for _, *frame in frames], numbers, sessions)
+    for (offset, name, _), number in zip(frames, told):
         it.content[int(offset)] = f"{name} {number}"
         if number != "-":
             it.places[name][int(number)].append(int(offset))

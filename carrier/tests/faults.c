@@ -8,6 +8,7 @@
  * krbrelay_opener_open as OPENS_WITHOUT_MEMORY says have no memory: those of messages that are refused. */
 #include "carrier.h"
 #include "clock.h"
+#include "wrapped.h"
 
 #include <stdio.h>
 #include <stdlib.h>
@@ -18,22 +19,10 @@ static struct carrier real; /* the calls of SQLite's carrier */
 static long faults;         /* of 1,000 */
 static unsigned lost;       /* so many of the next frames are lost too */
 
-struct carrier *__real_sqlite_carrier_open(const char *path);
-struct carrier *__wrap_sqlite_carrier_open(const char *path);
-
-struct krbrelay_moment __real_read_clock(void);
-struct krbrelay_moment __wrap_read_clock(void);
-
-enum krbrelay_answer __real_krbrelay_opener_open(struct krbrelay_opener *handle, const uint8_t *frame,
-                                                 size_t len, const struct krbrelay_demand *demand,
-                                                 const struct krbrelay_moment *at, uint8_t *user_data,
-                                                 size_t room, size_t *size,
-                                                 struct krbrelay_carried *carried);
-enum krbrelay_answer __wrap_krbrelay_opener_open(struct krbrelay_opener *handle, const uint8_t *frame,
-                                                 size_t len, const struct krbrelay_demand *demand,
-                                                 const struct krbrelay_moment *at, uint8_t *user_data,
-                                                 size_t room, size_t *size,
-                                                 struct krbrelay_carried *carried);
+WRAPPED(sqlite_carrier_open);
+WRAPPED(read_clock);
+WRAPPED(krbrelay_opener_open);
+WRAPPED(krbrelay_receiver_take_many);
 
 struct krbrelay_moment __wrap_read_clock(void)
 {
@@ -55,15 +44,6 @@ enum krbrelay_answer __wrap_krbrelay_opener_open(struct krbrelay_opener *handle,
         return KRBRELAY_MEMORY;
     return __real_krbrelay_opener_open(handle, frame, len, demand, at, user_data, room, size, carried);
 }
-
-enum krbrelay_answer __real_krbrelay_receiver_take_many(struct krbrelay_receiver *handle,
-                                                        const struct krbrelay_frame *frames, size_t count,
-                                                        const struct krbrelay_moment *at, uint8_t *bytes,
-                                                        size_t room, struct krbrelay_taken *taken);
-enum krbrelay_answer __wrap_krbrelay_receiver_take_many(struct krbrelay_receiver *handle,
-                                                        const struct krbrelay_frame *frames, size_t count,
-                                                        const struct krbrelay_moment *at, uint8_t *bytes,
-                                                        size_t room, struct krbrelay_taken *taken);
 
 /* One frame at a time where one of them meets another clock. */
 enum krbrelay_answer __wrap_krbrelay_receiver_take_many(struct krbrelay_receiver *handle,

@@ -11,6 +11,7 @@
 The status is 0 if the answer is whole.
 """
 import base64
+import contextlib
 import json
 import os
 import socket
@@ -63,7 +64,6 @@ class Connection:
         self.file.close()
         self.socket.close()
 
-
     def ask(self, subject, body=b""):
         """What is answered to one request; the inbox is subscribed to."""
         self.publish(subject, body, INBOX)
@@ -73,14 +73,25 @@ class Connection:
         return json.loads(answer)
 
 
+    def offsets(self, shard):
+        """Where the stream of a shard may have frames."""
+        state = member(self.ask(f"$JS.API.STREAM.INFO.KRB_{shard}"), "state")
+        return range(max(1, state["first_seq"]), state["last_seq"] + 1)     # 0: it is empty
+
+    def frame_at(self, shard, offset):
+        """The session and the frame there, or None."""
+        answer = self.ask(f"$JS.API.STREAM.MSG.GET.KRB_{shard}", b'{"seq":%d}' % offset)
+        if answer.get("error", {}).get("err_code") == NOT_THERE:
+            return None
+        message = member(answer, "message")
+        return message["subject"].rsplit(".", 1)[1], base64.b64decode(message.get("data", ""))
+
+
 def request(port, subject, host="127.0.0.1", patience=PATIENCE, **body):
     """What JetStream answers to one request of its interface."""
-    connection = Connection(port, host, patience)
-    try:
+    with contextlib.closing(Connection(port, host, patience)) as connection:
         connection.subscribe(INBOX)
         return connection.ask(f"$JS.API.{subject}", json.dumps(body).encode() if body else b"")
-    finally:
-        connection.close()
 
 
 def answers(port, subject, patience, **body):
@@ -106,19 +117,13 @@ def stream(port, shard):
 def frames(port, shard, host="127.0.0.1", patience=PATIENCE):
     """Each message that the stream of a shard has, asked for by its offset: the offset, the session
     and the frame. A fault if one can't be asked for."""
-    connection, found = Connection(port, host, patience), []
-    try:
+    found = []
+    with contextlib.closing(Connection(port, host, patience)) as connection:
         connection.subscribe(INBOX)
-        state = member(connection.ask(f"$JS.API.STREAM.INFO.KRB_{shard}"), "state")
-        for offset in range(max(1, state["first_seq"]), state["last_seq"] + 1):   # 0: it is empty
-            answer = connection.ask(f"$JS.API.STREAM.MSG.GET.KRB_{shard}", b'{"seq":%d}' % offset)
-            if answer.get("error", {}).get("err_code") == NOT_THERE:
-                continue
-            message = member(answer, "message")
-            found.append((offset, message["subject"].rsplit(".", 1)[1],
-                          base64.b64decode(message.get("data", ""))))
-    finally:
-        connection.close()
+        for offset in connection.offsets(shard):
+            frame = connection.frame_at(shard, offset)
+            if frame:
+                found.append((offset, *frame))
     return found
 
 
@@ -130,14 +135,10 @@ def member(answer, name):
 
 def is_taken(port, shard, host="127.0.0.1", patience=PATIENCE):
     """Whether the stream of a shard confirms a frame, of a session that nobody has."""
-    try:
-        connection = Connection(port, host, patience)
+    with contextlib.suppress(OSError), contextlib.closing(Connection(port, host, patience)) as connection:
         connection.subscribe(INBOX)
-        is_confirmed = connection.ask(f"krb.{shard}.nobody", b"nobody's").get("seq", 0) > 0
-        connection.close()
-        return is_confirmed
-    except OSError:
-        return False
+        return connection.ask(f"krb.{shard}.nobody", b"nobody's").get("seq", 0) > 0
+    return False
 
 
 def takes(port, shard, host="127.0.0.1"):
@@ -152,8 +153,8 @@ def takes(port, shard, host="127.0.0.1"):
 
 def repeat(port, shard, times, host="127.0.0.1"):
     """Publishes each frame of a shard so many times more, however slow that makes the node."""
-    found, connection = frames(port, shard, host, LOOKING), Connection(port, host, LOOKING)
-    try:
+    found = frames(port, shard, host, LOOKING)
+    with contextlib.closing(Connection(port, host, LOOKING)) as connection:
         for _, name, frame in found * times:
             connection.file.write(b"PUB krb.%d.%s %d\r\n%s\r\n"
                                   % (shard, name.encode(), len(frame), frame))
@@ -161,8 +162,6 @@ def repeat(port, shard, times, host="127.0.0.1"):
         connection.file.flush()
         while not connection.file.readline().startswith(b"PONG"):
             pass
-    finally:
-        connection.close()
 
 
 def run(host, port, what, *more, command=()):

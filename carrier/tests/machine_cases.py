@@ -1,7 +1,5 @@
-"""What is done to the machines of machines.py. CASES is the table: what is done, within which time
-all has to be delivered after it, and how long nothing may take effect. A case's function does it,
-and returns when it is over; then the network is whole again.
-"""
+"""What is done to the machines of machines.py: cases as those of cases.py. A case's function does it, and returns when
+it is over; then the network is whole again."""
 import dataclasses
 import json
 import random
@@ -9,6 +7,7 @@ import signal
 import time
 import typing
 
+import cases
 import evidence
 import machines
 from machines import DATABASE, NODES, RECEIVERS, SENDERS
@@ -20,66 +19,97 @@ STATES = ("SELECT count(*) FROM pg_stat_activity WHERE client_addr = '{}'"
           " AND state LIKE '%transaction%'")
 
 
+@dataclasses.dataclass
+class Case(cases.Named):
+    """How the machines are made. All texts have to take effect within so many seconds after what is done, and no longer
+    gap may be between two effects.
+
+    `loses` says why the carrier may lose what it confirmed, and `stays_down` why a shard may take no
+    frame any more; if it is empty, that may not be. A session may stand for these reasons alone, and
+    only if evidence.py shows of it that it does. Where not all can take effect, `judged` says what has
+    to hold in its place."""
+    seconds: float = 60
+    gap: float = 20
+    loses: str = ""
+    stays_down: str = ""
+    stand: int = None       # so many sessions have to stand
+    judged: typing.Callable = None
+    made: dict = dataclasses.field(default_factory=dict)
+
+
+CASES, case = cases.table(Case)
+IMAGES = dict.fromkeys(NODES, "image")
+SYNCED = dict.fromkeys(NODES, "image,sync")
+SMALL = dict.fromkeys(NODES, "24m")
+FAST = {"rate": 600, "size": 1000}
+SHARED = {"is_shared": True}
+
+# Why JetStream 2.9.10 may lose what it confirmed, or a shard of it stays down.
+ONE_WAY = ("a leader whose messages to its peers are lost gives offsets that others give again"
+           " after the next election")
+STOPPED = "nodes that wake all at once each go on with what they had before the others' election"
+KILLED = "a node writes what it confirmed a moment later, and all are killed at once"
+FULL = "a node whose disk is full drops what it confirmed"
+UNSYNCED = "a node that loses power has what it had synced, up to two minutes before"
+BROKEN = "a node that loses power may leave files from which the group of all streams doesn't start"
+DRAWN_FAULTS = "nodes are killed, stopped and cut off one way, one after the other"
+
+
 def others(node):
     return [it for it in NODES if it != node]
 
 
+def start_again(world, nodes, seconds):
+    """Starts these nodes, and gives them so many seconds."""
+    for node in nodes:
+        world.start_node(node)
+    time.sleep(seconds)
+
+
+def stop_for(world, names, seconds):
+    """Has these processes stand for so many seconds."""
+    world.signal(names, signal.SIGSTOP)
+    time.sleep(seconds)
+    world.signal(names, signal.SIGCONT)
+
+
+@case("nothing", 20, 5)
 def nothing(world):
     time.sleep(6)
 
 
 # ---- the network
 
-def leader_cut_from_peers(world):
+@case("a leader is cut from its peers for 7 s", called="leader_cut_from_peers",
+      given=(lambda net, leader, peers: net.cut(leader, peers),))
+@case("a leader is cut off for 7 s", called="leader_isolated", given=(lambda net, leader, _: net.cut(leader, "*"),))
+@case("what a leader sends to its peers is lost for 7 s", loses=ONE_WAY, called="leader_one_way_out",
+      given=(lambda net, leader, peers: net.set_way(leader, peers, 1),))
+@case("what its peers send to a leader is lost for 7 s", called="leader_one_way_in",
+      given=(lambda net, leader, peers: net.set_way(peers, leader, 1),))
+def leader_cut(world, cut):
     leader = world.leader()
-    world.network.cut([leader], others(leader))
+    cut(world.network, [leader], others(leader))
     time.sleep(7)
 
 
-def leader_isolated(world):
-    world.network.isolate(world.leader())
-    time.sleep(7)
+@case("all nodes are cut from each other for 7 s", gap=25, called="nodes_apart",
+      given=(lambda net: [net.cut([it], others(it)) for it in NODES],))
+@case("two of three nodes are cut from each other for 7 s", called="half_ring",
+      given=(lambda net: net.cut(["n0"], ["n2"]),))
+@case("a fifth of all is lost and the rest late by 20 to 100 ms, for 8 s", called="loss",
+      given=(lambda net: net.set_way("*", "*", 0.2, 20, 80), 8))
+@case("half of what nodes send to senders is lost for 7 s", called="confirmations_lost",
+      given=(lambda net: net.set_way(NODES, SENDERS, 0.5),))
+@case("senders are 1.3 s from the nodes for 14 s", gap=25, made={"seconds": 20}, called="far_senders",
+      given=(lambda net: net.set_both_ways(SENDERS, NODES, 0, 1300), 14))
+def network_hurt(world, hurt, seconds=7):
+    hurt(world.network)
+    time.sleep(seconds)
 
 
-def leader_one_way_out(world):
-    leader = world.leader()
-    world.network.set_way([leader], others(leader), 1)
-    time.sleep(7)
-
-
-def leader_one_way_in(world):
-    leader = world.leader()
-    world.network.set_way(others(leader), [leader], 1)
-    time.sleep(7)
-
-
-def nodes_apart(world):
-    for node in NODES:
-        world.network.cut([node], others(node))
-    time.sleep(7)
-
-
-def half_ring(world):
-    world.network.cut(["n0"], ["n2"])
-    time.sleep(7)
-
-
-def loss(world):
-    world.network.set_way("*", "*", 0.2, 20, 80)
-    time.sleep(8)
-
-
-def confirmations_lost(world):
-    world.network.set_way(NODES, SENDERS, 0.5)
-    time.sleep(7)
-
-
-def far_senders(world):
-    world.network.set_way(SENDERS, NODES, 0, 1300)
-    world.network.set_way(NODES, SENDERS, 0, 1300)
-    time.sleep(14)
-
-
+@case("senders have 1 Mbit/s for 30 s, with a backlog of 1,440 texts of 1,000 bytes",
+      made={"rate": 100, "size": 1000})
 def thin_senders(world):
     for sender in SENDERS:
         world.network.set_line(sender, THIN)
@@ -89,13 +119,11 @@ def thin_senders(world):
 
 # ---- nodes
 
+@case("all nodes are killed and started again", loses=KILLED)
 def all_nodes_killed(world):
-    for node in NODES:
-        world.stop(node)
+    world.stop(*NODES)
     time.sleep(1.5)
-    for node in NODES:
-        world.start_node(node)
-    time.sleep(2)
+    start_again(world, NODES, 2)
 
 
 def require_all_rise(world, seconds, shards=None):
@@ -107,62 +135,61 @@ def require_all_rise(world, seconds, shards=None):
         world.notes.append(f"a shard of {shards or 'all'} stood: {before}, {after} of {sent}")
 
 
+@case("one receiver alone; a node is away for 24 s", gap=10, made={"seconds": 30})
 def node_gone(world):
-    world.stop("r1")
-    world.stop("n2")
+    world.stop("r1", "n2")
     require_all_rise(world, 24)
-    world.start_node("n2")
-    time.sleep(3)
+    start_again(world, ["n2"], 3)
 
 
+@case("one receiver alone; each node is killed in turn", gap=20)
 def nodes_in_turn(world):
     world.stop("r1")
     for node in NODES:
         world.stop(node)
         time.sleep(2.5)
-        world.start_node(node)
-        time.sleep(2)
+        start_again(world, [node], 2)
 
 
+@case("a leader is stopped for 6 s")
+def leader_stopped(world):
+    stop_for(world, [world.leader()], 6)
+
+
+@case("one receiver alone; a leader is cut from its peers for 7 s")
 def alone_cut_from_peers(world):
     """The receiver may stay connected to the leader."""
     world.stop("r1")
-    leader_cut_from_peers(world)
+    leader_cut(world, machines.Network.cut)
 
 
+@case("one receiver alone; a leader is stopped for 6 s")
 def alone_leader_stopped(world):
     world.stop("r1")
     leader_stopped(world)
 
 
-def leader_stopped(world):
-    leader = world.leader()
-    world.signal([leader], signal.SIGSTOP)
-    time.sleep(6)
-    world.signal([leader], signal.SIGCONT)
-
-
+@case("all nodes are stopped for 6 s", loses=STOPPED)
 def all_nodes_stopped(world):
-    world.signal(NODES, signal.SIGSTOP)
-    time.sleep(6)
-    world.signal(NODES, signal.SIGCONT)
+    stop_for(world, NODES, 6)
 
 
+@case("one replica; a node is away for 25 s, senders are started again", gap=40,
+      made={"replicas": 1, "rate": 240, "seconds": 32})
 def one_replica(world):
     """The shards of that node wait; the other shards don't."""
     leader = world.leader()
     free = [shard for shard in range(world.options.shards) if world.leader(shard) != leader]
     world.stop(leader)
     time.sleep(1)
-    for sender in SENDERS:
-        world.restart(sender)
+    world.restart(*SENDERS)
     require_all_rise(world, 24, free)
-    world.start_node(leader)
-    time.sleep(2)
+    start_again(world, [leader], 2)
 
 
 # ---- senders and receivers
 
+@case("a sender, then one receiver and then the other are stopped for 3 s")
 def ends_stopped(world):
     world.signal(["s0", "r0"], signal.SIGSTOP)
     time.sleep(3)
@@ -177,21 +204,20 @@ def stream_of(world, shard):
     return json.loads(world.ask_node(world.leader(), "info", shard))
 
 
+@case("a frame that wasn't read is deleted from its stream", 30)
 def frame_deleted(world):
-    """One that was confirmed and not read: its sender sends it again."""
-    for receiver in RECEIVERS:
-        world.stop(receiver)
+    """One that was confirmed: its sender sends it again."""
+    world.stop(*RECEIVERS)
     time.sleep(2)
     end = stream_of(world, 0)["state"]["last_seq"]
     time.sleep(2)
-    if world.ask_node(world.leader(), "delete", 0, end) is None:
-        world.notes.append(f"frame {end} isn't deleted")
-    for receiver in RECEIVERS:
-        world.start_receiver(receiver)
+    world.require(world.ask_node(world.leader(), "delete", 0, end) is not None, f"frame {end} isn't deleted")
+    world.start_receivers()
 
 
+@case("SIGTERM to a sender and a receiver while nodes, then the database, are cut off", gap=25, made={"seconds": 18})
 def told_to_end(world):
-    """While what they wait for is cut off."""
+    """They wait for what is cut off."""
     for away in (NODES, [DATABASE]):
         for name in away:
             world.network.isolate(name)
@@ -201,24 +227,25 @@ def told_to_end(world):
         time.sleep(4)
 
 
+@case("a receiver's machine is lost in a transaction; another one is started", gap=20,
+      made={"rate": 1200, "seconds": 24})
 def receiver_lost(world):
-    """r0 alone, 10 ms from the database, is lost in a transaction; then r1 is started."""
+    """r0 alone, 10 ms from the database, is lost; then r1 is started."""
     world.stop("r1")
-    receiver, near = machines.ADDRESS["r0"], (["r0"], [DATABASE])
     is_within = False
     while not is_within:
         world.network.heal()
-        world.network.set_way(*near, 0, 10)
-        world.network.set_way(*reversed(near), 0, 10)
+        world.network.set_both_ways(["r0"], [DATABASE], 0, 10)
         time.sleep(random.uniform(0.3, 0.6))
         world.network.isolate("r0")
         time.sleep(0.25)
-        is_within = world.ask(STATES.format(receiver)) != [["0"]]
+        is_within = world.ask(STATES.format(machines.ADDRESS["r0"])) != [["0"]]
     world.stop("r0")
     world.start_receiver("r1")
     time.sleep(25)
 
 
+@case("receivers share shards; one is killed, and is away for 15 s", made=SHARED | {"seconds": 28})
 def shared_killed(world):
     world.stop("r0")
     time.sleep(5)
@@ -228,21 +255,20 @@ def shared_killed(world):
     require_all_rise(world, 6)
 
 
-def shared_lost(world):
-    """Its locks end with its connection, which the database gives up."""
-    world.network.isolate("r0")
-    time.sleep(20)
-    require_all_rise(world, 8)
-
-
-def shared_stopped(world):
-    """Its locks end since it says nothing. When it wakes, it serves its part again."""
-    world.signal(["r0"], signal.SIGSTOP)
+@case("receivers share shards; the machine of one is cut off for 28 s", made=SHARED | {"seconds": 34},
+      called="shared_lost", given=(lambda world: world.network.isolate("r0"),))
+@case("receivers share shards; one is stopped for 28 s", made=SHARED | {"seconds": 34}, called="shared_stopped",
+      given=(lambda world: world.signal(["r0"], signal.SIGSTOP),))
+def shared_silent(world, silence):
+    """Its locks end with its connection, which the database gives up, or since it says nothing. When it wakes, it
+    serves its part again."""
+    silence(world)
     time.sleep(20)
     require_all_rise(world, 8)
     world.signal(["r0"], signal.SIGCONT)
 
 
+@case("one of two receivers has a clock that is two days ahead", made={"clocks": {"r0": 2 * DAY}})
 def receivers_clock(world):
     time.sleep(7)
     world.clocks = {}
@@ -251,20 +277,21 @@ def receivers_clock(world):
 
 # ---- the database
 
+@case("the database is killed three times")
 def database_killed(world):
     for _ in range(3):
-        world.end_database()
-        time.sleep(0.7)
-        world.start_database()
+        world.kill_database(0.7)
         time.sleep(1.5)
 
 
+@case("the database is stopped for 6 s", gap=25)
 def database_stopped(world):
     world.signal_database(signal.SIGSTOP)
     time.sleep(6)
     world.signal_database(signal.SIGCONT)
 
 
+@case("the database is cut off for 7 s", gap=25)
 def database_cut_off(world):
     world.network.isolate(DATABASE)
     time.sleep(7)
@@ -272,34 +299,35 @@ def database_cut_off(world):
 
 # ---- disks
 
+def fill_for(world, names, seconds):
+    """Disks are full for so many seconds."""
+    for name in names:
+        world.disks[name].fill()
+    time.sleep(seconds)
+    for name in names:
+        world.disks[name].make_room()
+
+
+@case("a node's disk is full for 7 s", loses=FULL, made=FAST | {"disks": {"n0": "24m"}})
 def node_disk_full(world):
-    world.disks["n0"].fill()
-    time.sleep(7)
-    world.disks["n0"].make_room()
+    fill_for(world, ["n0"], 7)
     world.restart("n0")
     time.sleep(2)
 
 
+@case("all nodes' disks are full for 7 s", gap=25, loses=FULL, made=FAST | {"disks": SMALL})
 def all_disks_full(world):
-    for node in NODES:
-        world.disks[node].fill()
-    time.sleep(7)
-    for node in NODES:
-        world.disks[node].make_room()
-        world.stop(node)
-    for node in NODES:
-        world.start_node(node)
-    time.sleep(2)
+    fill_for(world, NODES, 7)
+    world.stop(*NODES)
+    start_again(world, NODES, 2)
 
 
+@case("an outbox's disk is full for 7 s, and its sender is cut off", made={"disks": {"s0": "8m"}, "size": 1000})
 def outbox_disk_full(world):
-    """The sender is cut off, so that texts and frames pile up."""
+    """So that texts and frames pile up."""
     world.network.isolate("s0")
-    world.disks["s0"].fill()
-    time.sleep(7)
-    if not world.counts["insertions that failed"]:
-        world.notes.append("the disk wasn't full")
-    world.disks["s0"].make_room()
+    fill_for(world, ["s0"], 7)
+    world.require(world.counts["insertions that failed"], "the disk wasn't full")
 
 
 def lose_power(world, nodes):
@@ -311,38 +339,41 @@ def lose_power(world, nodes):
         world.stop(node)
         world.disks[node].lose()
     time.sleep(0.5)
+    start_again(world, nodes, 3)
+
+
+def sync(world, nodes):
+    """The disks are synced, and written to for six seconds after it."""
     for node in nodes:
-        world.start_node(node)
-    time.sleep(3)
-
-
-def power_of_one(world):
-    world.disks["n0"].sync()
-    time.sleep(6)
-    lose_power(world, NODES[:1])
-
-
-def power_of_two(world):
-    for node in NODES:
         world.disks[node].sync()
     time.sleep(6)
-    lose_power(world, NODES[:2])
 
 
+@case("a node loses power 6 s after its disk was synced", made={"disks": {"n0": "image"}, "rate": 600},
+      called="power_of_one", given=(NODES[:1], NODES[:1]))
+@case("two nodes lose power 6 s after their disks were synced", 120, 25, UNSYNCED, BROKEN,
+      made={"disks": IMAGES, "rate": 600}, called="power_of_two", given=(NODES, NODES[:2]))
+def power_of_some(world, synced, nodes):
+    sync(world, synced)
+    lose_power(world, nodes)
+
+
+@case("all nodes lose power, over file systems that are mounted sync", 120, 60, KILLED, BROKEN,
+      made={"disks": SYNCED, "rate": 600})
 def power_of_all(world):
     lose_power(world, NODES)
     time.sleep(6)
-    for end in SENDERS + RECEIVERS:
-        world.restart(end)
+    world.restart(*SENDERS, *RECEIVERS)
 
 
+@case("all nodes lose power 6 s after their disks were synced", 120, 60, UNSYNCED, BROKEN,
+      made={"disks": IMAGES, "rate": 600})
 def power_of_all_unsynced(world):
-    for node in NODES:
-        world.disks[node].sync()
-    time.sleep(6)
+    sync(world, NODES)
     power_of_all(world)
 
 
+@case("a sender's machine loses power three times", made={"disks": {"s0": "image"}, "rate": 600})
 def power_of_sender(world):
     """An application's texts are on the disk when its transaction has ended."""
     for _ in range(3):
@@ -359,12 +390,17 @@ def power_of_sender(world):
 
 # ---- drawn faults
 
-def drawn_faults(world):
-    dice, until = random.Random(world.seed), time.monotonic() + 22
+def drawn_faults(world, seed):
+    dice, until = random.Random(seed), time.monotonic() + 22
     while time.monotonic() < until:
         dice.choice(DRAWN)(world, dice)
         world.network.heal()
         time.sleep(dice.uniform(0.2, 1.2))
+
+
+for _seed in (101, 102, 103):
+    case(f"drawn faults for 22 s, seed {_seed}", gap=30, loses=DRAWN_FAULTS, made={"seconds": 26}, given=(_seed,),
+         called=f"drawn_faults_{_seed}")(drawn_faults)
 
 
 def cut_one(world, dice):
@@ -395,122 +431,17 @@ def kill_end(world, dice):
 
 
 def stop_one(world, dice):
-    name = dice.choice(NODES + SENDERS + RECEIVERS)
-    world.signal([name], signal.SIGSTOP)
-    time.sleep(dice.uniform(1, 4))
-    world.signal([name], signal.SIGCONT)
+    stop_for(world, [dice.choice(NODES + SENDERS + RECEIVERS)], dice.uniform(1, 4))
 
 
 def kill_database(world, dice):
-    world.end_database()
-    time.sleep(dice.uniform(0.2, 1))
-    world.start_database()
+    world.kill_database(dice.uniform(0.2, 1))
 
 
 DRAWN = (cut_one, cut_one_way, lose_some, kill_node, kill_end, stop_one, kill_database)
 
 
-# ---- the table
-
-@dataclasses.dataclass
-class Case:
-    """What is done, and how the machines are made. All texts have to take effect within so many
-    seconds after it, and no longer gap may be between two effects.
-
-    `loses` says why the carrier may lose what it confirmed, and `stays_down` why a shard may take no
-    frame any more; if it is empty, that may not be. A session may stand for these reasons alone, and
-    only if evidence.py shows of it that it does. Where not all can take effect, `judged` says what has
-    to hold in its place."""
-    run: typing.Callable
-    done: str
-    seconds: float = 60
-    gap: float = 20
-    loses: str = ""
-    stays_down: str = ""
-    stand: int = None       # so many sessions have to stand
-    judged: typing.Callable = None
-    seed: int = 0
-    variant: str = ""       # where the table has a function twice
-    made: dict = dataclasses.field(default_factory=dict)
-
-    def name(self):
-        return "_".join([self.run.__name__, *([str(self.seed)] if self.seed else ()),
-                         *([self.variant] if self.variant else ())])
-
-
-IMAGES = dict.fromkeys(NODES, "image")
-SYNCED = dict.fromkeys(NODES, "image,sync")
-SMALL = dict.fromkeys(NODES, "24m")
-
-# Why JetStream 2.9.10 may lose what it confirmed, or a shard of it stays down.
-ONE_WAY = ("a leader whose messages to its peers are lost gives offsets that others give again"
-           " after the next election")
-STOPPED = "nodes that wake all at once each go on with what they had before the others' election"
-KILLED = "a node writes what it confirmed a moment later, and all are killed at once"
-FULL = "a node whose disk is full drops what it confirmed"
-UNSYNCED = "a node that loses power has what it had synced, up to two minutes before"
-BROKEN = "a node that loses power may leave files from which the group of all streams doesn't start"
-DRAWN_FAULTS = "nodes are killed, stopped and cut off one way, one after the other"
-
-CASES = (
-    Case(nothing, "nothing", 20, 5),
-    Case(leader_cut_from_peers, "a leader is cut from its peers for 7 s"),
-    Case(leader_isolated, "a leader is cut off for 7 s"),
-    Case(leader_one_way_out, "what a leader sends to its peers is lost for 7 s", loses=ONE_WAY),
-    Case(leader_one_way_in, "what its peers send to a leader is lost for 7 s"),
-    Case(nodes_apart, "all nodes are cut from each other for 7 s", gap=25),
-    Case(half_ring, "two of three nodes are cut from each other for 7 s"),
-    Case(loss, "a fifth of all is lost and the rest late by 20 to 100 ms, for 8 s"),
-    Case(confirmations_lost, "half of what nodes send to senders is lost for 7 s"),
-    Case(far_senders, "senders are 1.3 s from the nodes for 14 s", gap=25, made={"seconds": 20}),
-    Case(thin_senders, "senders have 1 Mbit/s for 30 s, with a backlog of 1,440 texts of 1,000 bytes",
-         made={"rate": 100, "size": 1000}),
-    Case(all_nodes_killed, "all nodes are killed and started again", loses=KILLED),
-    Case(node_gone, "one receiver alone; a node is away for 24 s", gap=10, made={"seconds": 30}),
-    Case(nodes_in_turn, "one receiver alone; each node is killed in turn", gap=20),
-    Case(leader_stopped, "a leader is stopped for 6 s"),
-    Case(alone_cut_from_peers, "one receiver alone; a leader is cut from its peers for 7 s"),
-    Case(alone_leader_stopped, "one receiver alone; a leader is stopped for 6 s"),
-    Case(all_nodes_stopped, "all nodes are stopped for 6 s", loses=STOPPED),
-    Case(one_replica, "one replica; a node is away for 25 s, senders are started again", gap=40,
-         made={"replicas": 1, "rate": 240, "seconds": 32}),
-    Case(ends_stopped, "a sender, then one receiver and then the other are stopped for 3 s"),
-    Case(frame_deleted, "a frame that wasn't read is deleted from its stream", 30),
-    Case(told_to_end, "SIGTERM to a sender and a receiver while nodes, then the database, are cut off",
-         gap=25, made={"seconds": 18}),
-    Case(receiver_lost, "a receiver's machine is lost in a transaction; another one is started",
-         gap=20, made={"rate": 1200, "seconds": 24}),
-    Case(shared_killed, "receivers share shards; one is killed, and is away for 15 s",
-         made={"is_shared": True, "seconds": 28}),
-    Case(shared_lost, "receivers share shards; the machine of one is cut off for 28 s",
-         made={"is_shared": True, "seconds": 34}),
-    Case(shared_stopped, "receivers share shards; one is stopped for 28 s",
-         made={"is_shared": True, "seconds": 34}),
-    Case(receivers_clock, "one of two receivers has a clock that is two days ahead",
-         made={"clocks": {"r0": 2 * DAY}}),
-    Case(database_killed, "the database is killed three times"),
-    Case(database_stopped, "the database is stopped for 6 s", gap=25),
-    Case(database_cut_off, "the database is cut off for 7 s", gap=25),
-    Case(node_disk_full, "a node's disk is full for 7 s", loses=FULL,
-         made={"disks": {"n0": "24m"}, "rate": 600, "size": 1000}),
-    Case(all_disks_full, "all nodes' disks are full for 7 s", gap=25, loses=FULL,
-         made={"disks": SMALL, "rate": 600, "size": 1000}),
-    Case(outbox_disk_full, "an outbox's disk is full for 7 s, and its sender is cut off",
-         made={"disks": {"s0": "8m"}, "size": 1000}),
-    Case(power_of_one, "a node loses power 6 s after its disk was synced",
-         made={"disks": {"n0": "image"}, "rate": 600}),
-    Case(power_of_two, "two nodes lose power 6 s after their disks were synced", 120, 25,
-         loses=UNSYNCED, stays_down=BROKEN, made={"disks": IMAGES, "rate": 600}),
-    Case(power_of_all, "all nodes lose power, over file systems that are mounted sync", 120, 60,
-         loses=KILLED, stays_down=BROKEN, made={"disks": SYNCED, "rate": 600}),
-    Case(power_of_all_unsynced, "all nodes lose power 6 s after their disks were synced", 120, 60,
-         loses=UNSYNCED, stays_down=BROKEN, made={"disks": IMAGES, "rate": 600}),
-    Case(power_of_sender, "a sender's machine loses power three times",
-         made={"disks": {"s0": "image"}, "rate": 600}),
-    *(Case(drawn_faults, f"drawn faults for 22 s, seed {seed}", gap=30, loses=DRAWN_FAULTS,
-           seed=seed, made={"seconds": 26}) for seed in (101, 102, 103)),
-)
-
+# ---- what has to hold
 
 def judge_standing(world, case, faults):
     """Which sessions stand; what isn't shown to be what the case allows is a fault."""
@@ -528,14 +459,19 @@ def judge_texts(world, found, faults):
     """What took effect is what was sent, in order; all of it, if the session is closed; and what
     wasn't sealed yet waits."""
     closed = world.closed()
+    require_prefixes(world, found, faults)
     for name, texts in world.sent.items():
-        if found[name] != texts[:len(found[name])]:
-            faults.append(f"{name}: doubled, changed or out of order")
-        elif name in closed and len(found[name]) < len(texts):
+        if name in closed and len(found[name]) < len(texts):
             faults.append(f"{name}: closed after {len(found[name])} of {len(texts)} texts")
         sending = world.sending(name)
         if not sending.accounts_for(len(texts)):
             faults.append(f"{name}: its outbox doesn't account for {len(texts)} texts: {sending}")
+
+
+def require_prefixes(world, found, faults):
+    """What took effect of each session are its first texts."""
+    faults += [f"{name}: doubled, changed or out of order" for name, texts in world.sent.items()
+               if found[name] != texts[:len(found[name])]]
 
 
 def judge_whole(world, case, faults):
@@ -572,14 +508,13 @@ def judge(world, case, since):
 
 def run(programs, folder, template, case):
     """One case: whether it went right, its line, and what went wrong."""
-    network = machines.Network(f"{programs}/switch")
+    network = machines.Network()
     world = machines.World(folder, programs, network, machines.Options(**case.made))
-    world.seed = case.seed
     try:
         world.start(template)
         time.sleep(BEFORE)
         since = time.monotonic()
-        case.run(world)
+        case.run(world, *case.given)
         network.heal()
         world.await_fed()
         world.close_all()

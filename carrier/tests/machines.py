@@ -1,7 +1,7 @@
 """Eight machines on one: three nodes of JetStream, two senders, two receivers and PostgreSQL. Each is
-a network namespace with a wire to one switch in user space (switch.c), which loses, delays and
+a network namespace with a wire to one switch in user space (switch.py), which loses, delays and
 reorders as it is told. A disk may be a file system on an image: a copy of the image at a moment is
-what a loss of power leaves. machine_cases.py has the table of what is done to them.
+what a loss of power leaves. machine_cases.py and two_faults.py have what is done to them.
 
 An application puts texts into the outboxes all the while. At the end each session is closed.
 """
@@ -26,7 +26,6 @@ import engines
 import errors
 import evidence
 import jetstream
-import repro
 
 NODES = ("n0", "n1", "n2")
 SENDERS = ("s0", "s1")
@@ -43,6 +42,7 @@ STEP = 0.1                          # seconds between insertions
 LOOK = 0.3                          # seconds between looks at the effects
 IMAGE = 400                         # megabytes
 
+SWITCH = os.path.join(os.path.dirname(os.path.abspath(__file__)), "switch.py")
 METRICS = 9464                      # the port at which a program shows its numbers
 # Prints what the program at a port of the loopback answers: the status and the text.
 ASK = """
@@ -69,6 +69,16 @@ def missing():
     return [name for name, is_there in needs.items() if not is_there]
 
 
+def await_so(is_so, what):
+    """What it gives once that is true; it is a fault that it isn't in time."""
+    until = time.monotonic() + PATIENCE
+    while not (found := is_so()):
+        if time.monotonic() > until:
+            raise RuntimeError(what)
+        time.sleep(0.1)
+    return found
+
+
 def run(*words, **how):
     """What a command prints, which has to go right."""
     return subprocess.run(words, check=True, stdout=subprocess.PIPE, stderr=subprocess.STDOUT,
@@ -80,12 +90,12 @@ def run(*words, **how):
 class Network:
     """A namespace for each machine, and the switch between them."""
 
-    def __init__(self, switch):
+    def __init__(self):
         tag = f"k{os.getpid()}n{next(TURNS)}"
         self.spaces = {name: f"{tag}-{name}" for name in MACHINES}
         wires = [f"{tag}t{place}" for place in range(len(MACHINES))]
         self.lock = threading.Lock()
-        self.switch = subprocess.Popen([switch, *wires], stdin=subprocess.PIPE,
+        self.switch = subprocess.Popen([sys.executable, SWITCH, *wires], stdin=subprocess.PIPE,
                                        stdout=subprocess.PIPE, text=True)
         if self.switch.stdout.readline() != "ready\n":
             raise RuntimeError("the switch doesn't start")
@@ -128,10 +138,13 @@ class Network:
             for target in self.places(targets):
                 self.tell(f"L {source} {target} {loss} {delay} {jitter}")
 
+    def set_both_ways(self, some, others, *how):
+        self.set_way(some, others, *how)
+        self.set_way(others, some, *how)
+
     def cut(self, some, others):
         """Nothing passes between these and those."""
-        self.set_way(some, others, 1)
-        self.set_way(others, some, 1)
+        self.set_both_ways(some, others, 1)
 
     def isolate(self, name):
         self.cut([name], "*")
@@ -241,7 +254,6 @@ class World:
         self.where = ",".join(f"nats://{ADDRESS[node]}:{CLIENT}" for node in NODES)
         self.store = f"postgresql://postgres@{ADDRESS[DATABASE]}/postgres"
         self.names = [f"s{place:03}" for place in range(options.sessions)]
-        self.seed = 0
         self.feeder = threading.Thread(target=self.feed)
         self.threads = [self.feeder, *(threading.Thread(target=it)
                                        for it in (self.tend, self.watch))]
@@ -294,12 +306,17 @@ class World:
             if self.processes[name].running.poll() is None:
                 self.processes[name].running.send_signal(number)
 
-    def stop(self, name):
-        """The machine's process ends at once and isn't started again."""
-        with self.lock:
-            self.processes[name].is_tended = False
-            self.signal([name], signal.SIGKILL)
-            self.processes[name].running.wait()
+    def require(self, fine, what):
+        if not fine:
+            self.notes.append(what)
+
+    def stop(self, *names):
+        """The machines' processes end at once and aren't started again."""
+        for name in names:
+            with self.lock:
+                self.processes[name].is_tended = False
+                self.signal([name], signal.SIGKILL)
+                self.processes[name].running.wait()
 
     def require_end(self, names):
         """SIGTERM ends these in time, and in order. They are started again."""
@@ -310,14 +327,14 @@ class World:
         for name, it in zip(names, running):
             with contextlib.suppress(subprocess.TimeoutExpired):
                 it.wait(max(0, until - time.monotonic()))
-            if it.poll() != 0:
-                self.notes.append(f"{name} was told to end: {it.poll()} after {errors.TO_END} s")
+            self.require(it.poll() == 0, f"{name} was told to end: {it.poll()} after {errors.TO_END} s")
 
-    def restart(self, name):
-        """The process is killed, and started again as it was."""
-        with self.lock:
-            self.stop(name)
-            self.spawn(name, *self.processes[name].words, is_tended=name in SENDERS + RECEIVERS)
+    def restart(self, *names):
+        """The processes are killed, and started again as they were."""
+        for name in names:
+            with self.lock:
+                self.stop(name)
+                self.spawn(name, *self.processes[name].words, is_tended=name in SENDERS + RECEIVERS)
 
     # ---- servers
 
@@ -352,16 +369,18 @@ class World:
 
     def start_database(self):
         self.spawn(DATABASE, *self.database)
-        until = time.monotonic() + PATIENCE
-        while self.count() is None:
-            if time.monotonic() > until:
-                raise RuntimeError("PostgreSQL doesn't start")
-            time.sleep(0.1)
+        await_so(lambda: self.count() is not None, "PostgreSQL doesn't start")
 
     def end_database(self):
         """At once, as by a crash."""
         self.signal([DATABASE], signal.SIGQUIT)
         self.processes[DATABASE].running.wait()
+
+    def kill_database(self, seconds):
+        """It is away for so many seconds."""
+        self.end_database()
+        time.sleep(seconds)
+        self.start_database()
 
     def signal_database(self, number):
         """To the server and each of its processes."""
@@ -370,10 +389,7 @@ class World:
 
     def ask(self, sql):
         """The rows of an answer, by way of a socket that no network cuts."""
-        done = subprocess.run(["psql", "-qAtF", "\t", "-h", f"{self.folder}/socket", "-U", "postgres",
-                               "-c", sql, "postgres"], check=True, stdout=subprocess.PIPE,
-                              stderr=subprocess.DEVNULL, text=True, timeout=PATIENCE)
-        return [line.split("\t") for line in done.stdout.splitlines()]
+        return engines.ask(f"postgresql://postgres@/postgres?host={self.folder}/socket", sql, PATIENCE)
 
     def ask_node(self, node, what, *more):
         """What a node says of a shard's stream (jetstream.py); None if the answer isn't whole."""
@@ -386,13 +402,7 @@ class World:
 
     def leader(self, shard=0):
         """The same, which is waited for."""
-        until = time.monotonic() + PATIENCE
-        while time.monotonic() < until:
-            found = self.leader_now(shard)
-            if found:
-                return found
-            time.sleep(0.5)
-        raise RuntimeError(f"shard {shard} has no leader")
+        return await_so(lambda: self.leader_now(shard), f"shard {shard} has no leader")
 
     # ---- senders and receivers
 
@@ -407,7 +417,12 @@ class World:
         """With its own outbox and sessions, or those of another machine."""
         self.spawn(name, *self.conditioned(name), f"{self.programs}/sender", "--sessions",
                    self.sessions_of(sessions_of or name), "--outbox", outbox or self.outbox(name),
-                   "--carrier", self.where, "--replicas", str(self.options.replicas), "--metrics", f"127.0.0.1:{METRICS}", is_tended=True)
+                   "--carrier", self.where, "--replicas", str(self.options.replicas), "--metrics",
+                   f"127.0.0.1:{METRICS}", is_tended=True)
+
+    def start_receivers(self):
+        for receiver in RECEIVERS:
+            self.start_receiver(receiver)
 
     def start_receiver(self, name):
         every = "auto" if self.options.is_shared else f"0-{self.options.shards - 1}"
@@ -453,37 +468,23 @@ class World:
         time.sleep(ELECTION)
         for sender in SENDERS:
             self.start_sender(sender)
-        for receiver in RECEIVERS:
-            self.start_receiver(receiver)
-        self.await_outboxes()
+        self.start_receivers()
+        await_so(lambda: all(map(self.has_outbox, SENDERS)), "a sender doesn't start")
         for thread in self.threads:
             thread.start()
 
-    def await_outboxes(self):
-        until = time.monotonic() + PATIENCE
-        while not all(map(self.has_outbox, SENDERS)):
-            if time.monotonic() > until:
-                raise RuntimeError("a sender doesn't start")
-            time.sleep(0.1)
-
     def has_outbox(self, sender):
-        path = self.outbox(sender)
-        if not os.path.exists(path):
+        if not os.path.exists(self.outbox(sender)):
             return False
-        file = sqlite3.connect(path, timeout=PATIENCE)
-        try:
+        with contextlib.suppress(sqlite3.Error), errors.opened(self.outbox(sender)) as file:
             return file.execute("SELECT turn FROM owner").fetchone()[0] > 0
-        except sqlite3.Error:
-            return False
-        finally:
-            file.close()
+        return False
 
     # ---- copies, and what is restored
 
     def copy_outbox(self, sender, path):
         """What the outbox has at one moment."""
-        with contextlib.closing(sqlite3.connect(self.outbox(sender), timeout=PATIENCE)) as source, \
-                contextlib.closing(sqlite3.connect(path)) as target:
+        with errors.opened(self.outbox(sender)) as source, errors.opened(path) as target:
             source.backup(target)
 
     def restore_outbox(self, sender, path):
@@ -511,9 +512,8 @@ class World:
     def put(self, sender, rows):
         """Puts rows into an outbox. Whether they are there for good."""
         try:
-            with contextlib.closing(sqlite3.connect(self.outbox(sender), timeout=PATIENCE)) as file:
-                with file:
-                    file.executemany("INSERT INTO text (session, body) VALUES (?, ?)", rows)
+            with errors.opened(self.outbox(sender)) as file:
+                file.executemany("INSERT INTO text (session, body) VALUES (?, ?)", rows)
             return True
         except sqlite3.Error:
             self.counts["insertions that failed"] += 1
@@ -609,7 +609,7 @@ class World:
     def status(self):
         """Each session that stands or is stopped, with what carrier/status says of it."""
         outboxes = (word for it in SENDERS for word in ("--outbox", self.outbox(it)))
-        done = subprocess.run(self.network.command(DATABASE, repro.STATUS, *outboxes, "--store", self.store,
+        done = subprocess.run(self.network.command(DATABASE, errors.STATUS, *outboxes, "--store", self.store,
                                                    "--standing"), check=False, stdout=subprocess.PIPE,
                               text=True, timeout=PATIENCE)
         return {line.split()[0]: line for line in done.stdout.splitlines()

@@ -2,11 +2,11 @@
  * was read. The linker puts this call in the place of that of store.h (--wrap). */
 #include "clock.h"
 #include "store.h"
+#include "wrapped.h"
 
 #include <stdlib.h>
 
-int __real_store_reached(struct store *store, unsigned shard, struct reached *reached);
-int __wrap_store_reached(struct store *store, unsigned shard, struct reached *reached);
+WRAPPED(store_reached);
 
 static void pause_once(void)
 {

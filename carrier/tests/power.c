@@ -21,7 +21,8 @@ struct image {
     struct change *first, **last;
 };
 
-struct file { sqlite3_file base; struct image *image; sqlite3_file *real; };
+/* What stands after the bytes of SQLite's own file: its calls, some of which are in the place of the real ones. */
+struct added { sqlite3_io_methods methods; const sqlite3_io_methods *real; struct image *image; };
 
 static struct image images[FILES];
 static size_t image_count;
@@ -155,29 +156,21 @@ static void step(void)
 
 /* ---- a file of SQLite's */
 
-#define OF(it) (((struct file *)(it))->real)
-#define IMAGE(it) (((struct file *)(it))->image)
-
-static int close_it(sqlite3_file *it)
+static struct added *added_to(sqlite3_file *it)
 {
-    return OF(it)->pMethods->xClose(OF(it));
-}
-
-static int read_it(sqlite3_file *it, void *to, int len, sqlite3_int64 at)
-{
-    return OF(it)->pMethods->xRead(OF(it), to, len, at);
+    return (void *)((char *)it + real->szOsFile);
 }
 
 static int write_it(sqlite3_file *it, const void *from, int len, sqlite3_int64 at)
 {
-    note(IMAGE(it), at, from, len);
-    return OF(it)->pMethods->xWrite(OF(it), from, len, at);
+    note(added_to(it)->image, at, from, len);
+    return added_to(it)->real->xWrite(it, from, len, at);
 }
 
 static int truncate_it(sqlite3_file *it, sqlite3_int64 size)
 {
-    note(IMAGE(it), size, NULL, 0);
-    return OF(it)->pMethods->xTruncate(OF(it), size);
+    note(added_to(it)->image, size, NULL, 0);
+    return added_to(it)->real->xTruncate(it, size);
 }
 
 /* The power may fail before it. */
@@ -185,29 +178,9 @@ static int sync_it(sqlite3_file *it, int flags)
 {
     (void)flags;
     step();
-    apply_all(IMAGE(it), 1);
-    IMAGE(it)->is_there = 1;
+    apply_all(added_to(it)->image, 1);
+    added_to(it)->image->is_there = 1;
     return SQLITE_OK;
-}
-
-static int size_of(sqlite3_file *it, sqlite3_int64 *size)
-{
-    return OF(it)->pMethods->xFileSize(OF(it), size);
-}
-
-static int lock_it(sqlite3_file *it, int level)
-{
-    return OF(it)->pMethods->xLock(OF(it), level);
-}
-
-static int unlock_it(sqlite3_file *it, int level)
-{
-    return OF(it)->pMethods->xUnlock(OF(it), level);
-}
-
-static int is_reserved(sqlite3_file *it, int *answer)
-{
-    return OF(it)->pMethods->xCheckReservedLock(OF(it), answer);
 }
 
 /* SQLite writes only by write_it: a size that it suggests changes nothing. */
@@ -215,7 +188,7 @@ static int control(sqlite3_file *it, int code, void *given)
 {
     if (code == SQLITE_FCNTL_SIZE_HINT || code == SQLITE_FCNTL_CHUNK_SIZE || code == SQLITE_FCNTL_MMAP_SIZE)
         return SQLITE_OK;
-    return OF(it)->pMethods->xFileControl(OF(it), code, given);
+    return added_to(it)->real->xFileControl(it, code, given);
 }
 
 static int sector_size(sqlite3_file *it)
@@ -231,46 +204,31 @@ static int characteristics(sqlite3_file *it)
     return 0;
 }
 
-static int map_shared(sqlite3_file *it, int page, int size, int extends, void volatile **at)
-{
-    return OF(it)->pMethods->xShmMap(OF(it), page, size, extends, at);
-}
-
-static int lock_shared(sqlite3_file *it, int offset, int count, int flags)
-{
-    return OF(it)->pMethods->xShmLock(OF(it), offset, count, flags);
-}
-
-static void bar_shared(sqlite3_file *it)
-{
-    OF(it)->pMethods->xShmBarrier(OF(it));
-}
-
-static int unmap_shared(sqlite3_file *it, int deletes)
-{
-    return OF(it)->pMethods->xShmUnmap(OF(it), deletes);
-}
-
-static const sqlite3_io_methods methods = {
-    2, close_it, read_it, write_it, truncate_it, sync_it, size_of, lock_it, unlock_it, is_reserved, control,
-    sector_size, characteristics, map_shared, lock_shared, bar_shared, unmap_shared, NULL, NULL
-};
-
 /* ---- SQLite's files */
 
 static int open_it(sqlite3_vfs *vfs, const char *path, sqlite3_file *it, int flags, int *given)
 {
-    struct file *file = (struct file *)it;
+    struct added *added = added_to(it);
     size_t before = image_count;
     int answer;
     (void)vfs;
-    file->real = (sqlite3_file *)(file + 1);
     check(path != NULL, "each file has a name");
-    file->image = image_of(path);
+    added->image = image_of(path);
     if (image_count > before)
-        load(file->image);
-    answer = real->xOpen(real, path, file->real, flags, given);
-    it->pMethods = file->real->pMethods != NULL ? &methods : NULL;
+        load(added->image);
+    answer = real->xOpen(real, path, it, flags, given);
+    if (it->pMethods == NULL)
+        return answer;
+    added->real = it->pMethods;
+    added->methods = *it->pMethods;
+    added->methods.iVersion = 2; /* no mapping */
+    added->methods.xWrite = write_it;
+    added->methods.xTruncate = truncate_it;
+    added->methods.xSync = sync_it;
+    added->methods.xFileControl = control;
+    added->methods.xSectorSize = sector_size;
+    added->methods.xDeviceCharacteristics = characteristics;
+    it->pMethods = &added->methods;
     return answer;
 }
 
@@ -308,7 +266,7 @@ void power_begin(uint64_t step, uint64_t seed)
     power = *real;
     power.zName = "power";
     power.pNext = NULL;
-    power.szOsFile = (int)sizeof(struct file) + real->szOsFile;
+    power.szOsFile = real->szOsFile + (int)sizeof(struct added);
     power.xOpen = open_it;
     power.xDelete = delete_it;
     steps = 0;

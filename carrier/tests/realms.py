@@ -32,6 +32,8 @@ class Realm:
         self.process.wait(LIMIT)
         self.process.stdout.close()
 
+    close = stop        # for contextlib.closing
+
     def path(self, name):
         return os.path.join(self.folder, name)
 

@@ -3,6 +3,8 @@
  *
  * CARRIER_RECORD names the file, to which each line is added by one call: "P SUBJECT REPLY" of what
  * is published, "M SUBJECT DATA" of what came. */
+#include "wrapped.h"
+
 #include <nats/nats.h>
 
 #include <fcntl.h>
@@ -13,14 +15,8 @@
 
 enum { LINE = 1024 };
 
-natsStatus __real_natsConnection_PublishRequest(natsConnection *connection, const char *subject,
-                                                const char *reply, const void *data, int len);
-natsStatus __wrap_natsConnection_PublishRequest(natsConnection *connection, const char *subject,
-                                                const char *reply, const void *data, int len);
-natsStatus __real_natsSubscription_NextMsg(natsMsg **message, natsSubscription *subscription,
-                                           int64_t timeout);
-natsStatus __wrap_natsSubscription_NextMsg(natsMsg **message, natsSubscription *subscription,
-                                           int64_t timeout);
+WRAPPED(natsConnection_PublishRequest);
+WRAPPED(natsSubscription_NextMsg);
 
 /* The file, or -1 if there is to be none. What can't be written down can't be judged: that ends
  * the program. */

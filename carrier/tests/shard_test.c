@@ -10,6 +10,7 @@
 #include "log.h"
 #include "receipts.h"
 #include "shard.h"
+#include "wrapped.h"
 
 #include "../../c/tests/frames.h"
 
@@ -23,8 +24,12 @@ static const void *watched;
 static size_t left;             /* so many bytes that aren't zero stood in it when it was freed */
 static int freed;
 
-void __real_free(void *block);
-void __wrap_free(void *block);
+WRAPPED(free);
+WRAPPED(krbrelay_opener_open);
+WRAPPED(krbrelay_receiver_take_many);
+WRAPPED(kept_find);
+WRAPPED(opening_session);
+WRAPPED(log_fields);
 
 void __wrap_free(void *block)
 {
@@ -34,15 +39,6 @@ void __wrap_free(void *block)
     freed += block != NULL && block == watched;
     __real_free(block);
 }
-
-enum krbrelay_answer __real_krbrelay_opener_open(struct krbrelay_opener *handle, const uint8_t *frame, size_t len,
-                                                 const struct krbrelay_demand *demand,
-                                                 const struct krbrelay_moment *at, uint8_t *user_data,
-                                                 size_t room, size_t *size, struct krbrelay_carried *carried);
-enum krbrelay_answer __wrap_krbrelay_opener_open(struct krbrelay_opener *handle, const uint8_t *frame, size_t len,
-                                                 const struct krbrelay_demand *demand,
-                                                 const struct krbrelay_moment *at, uint8_t *user_data,
-                                                 size_t room, size_t *size, struct krbrelay_carried *carried);
 
 static int opened;              /* frames that were opened beside the receiver */
 
@@ -54,15 +50,6 @@ enum krbrelay_answer __wrap_krbrelay_opener_open(struct krbrelay_opener *handle,
     opened++;
     return __real_krbrelay_opener_open(handle, frame, len, demand, at, user_data, room, size, carried);
 }
-
-enum krbrelay_answer __real_krbrelay_receiver_take_many(struct krbrelay_receiver *handle,
-                                                        const struct krbrelay_frame *frames, size_t count,
-                                                        const struct krbrelay_moment *at, uint8_t *bytes,
-                                                        size_t room, struct krbrelay_taken *taken);
-enum krbrelay_answer __wrap_krbrelay_receiver_take_many(struct krbrelay_receiver *handle,
-                                                        const struct krbrelay_frame *frames, size_t count,
-                                                        const struct krbrelay_moment *at, uint8_t *bytes,
-                                                        size_t room, struct krbrelay_taken *taken);
 
 static size_t most_together;    /* so many frames were taken in one call at most */
 
@@ -89,9 +76,6 @@ static const struct opened streams[] = {
 enum { STREAMS = sizeof streams / sizeof *streams };
 static const char *unreadable = "";
 
-int __wrap_kept_find(struct store *store, struct kerberos *kerberos, const char *name, kept_take *take, void *given);
-int __wrap_opening_session(struct kerberos *kerberos, const struct opened *it, unsigned number, struct session *of);
-
 int __wrap_kept_find(struct store *store, struct kerberos *kerberos, const char *name, kept_take *take, void *given)
 {
     size_t i;
@@ -102,9 +86,6 @@ int __wrap_kept_find(struct store *store, struct kerberos *kerberos, const char 
             return take(given, &streams[i]);
     return 0;
 }
-
-void __real_log_fields(enum level level, const char *event, const struct field *fields);
-void __wrap_log_fields(enum level level, const char *event, const struct field *fields);
 
 static int behind;              /* so often the store was said to have gone back */
 
@@ -196,26 +177,35 @@ static void test_times(struct shard *shard, struct carrier *carrier)
 static const char *const texts[] = { "first", "", "refused", "last" };
 enum { TEXTS = sizeof texts / sizeof *texts };
 
-/* Publishes a session's record under this number: a batch of the first so many texts, or one text. */
-static void publish_texts_as(struct carrier *carrier, const char *name, uint32_t number, size_t count)
+/* Publishes a session's record of this kind under this number. */
+static void publish_record(struct carrier *carrier, const char *name, uint32_t number, uint32_t kind,
+                           const uint8_t *bytes, size_t size)
 {
     static const uint8_t key[16] = { 0, 1, 2, 3, 4, 5, 6, 7, 8, 9, 10, 11, 12, 13, 14, 15 };
     static const uint8_t confounder[16] = { 0 };
+    static uint8_t frame[KRBRELAY_FRAME_LIMIT];
     const struct krbrelay_session session = { .mode = KRBRELAY_SAFE, .first = number,
                                               .sender = { 2, 4, { 10, 0, 0, 1 } } };
     struct krbrelay_sealer sealer = KRBRELAY_INIT;
     struct krbrelay_moment now;
-    uint8_t batch[64], frame[256];
-    size_t size = 0, len = 0, i;
+    size_t len = 0;
+    check(krbrelay_now(&now) == KRBRELAY_OK
+          && krbrelay_sealer_new(&sealer, 17, key, sizeof key, &session) == KRBRELAY_OK
+          && krbrelay_sealer_seal_record(&sealer, kind, bytes, size, &now, confounder, frame, sizeof frame, &len)
+          == KRBRELAY_OK, "a record is sealed");
+    krbrelay_sealer_free(&sealer);
+    publish_as(carrier, name, number, frame, len);
+}
+
+/* The same of a batch of the first so many texts. */
+static void publish_texts_as(struct carrier *carrier, const char *name, uint32_t number, size_t count)
+{
+    uint8_t batch[64];
+    size_t size = 0, i;
     for (i = 0; i < count; i++)
         check(krbrelay_batch_add(batch, sizeof batch, &size, (const uint8_t *)texts[i], strlen(texts[i]))
               == KRBRELAY_OK, "a batch has room for its texts");
-    check(krbrelay_now(&now) == KRBRELAY_OK
-          && krbrelay_sealer_new(&sealer, 17, key, sizeof key, &session) == KRBRELAY_OK
-          && krbrelay_sealer_seal_record(&sealer, KRBRELAY_BATCH, batch, size, &now, confounder, frame,
-                                         sizeof frame, &len) == KRBRELAY_OK, "a record is sealed");
-    krbrelay_sealer_free(&sealer);
-    publish_as(carrier, name, number, frame, len);
+    publish_record(carrier, name, number, KRBRELAY_BATCH, batch, size);
 }
 
 static void publish_texts(struct carrier *carrier, uint32_t number, size_t count)
@@ -329,21 +319,9 @@ static void test_together(struct shard *shard, struct carrier *carrier, sqlite3 
 /* A frame of the longest text. The other one that follows has no room beside it, so each is taken in a call of its own. */
 static void publish_longest(struct carrier *carrier, uint32_t number)
 {
-    static const uint8_t key[16] = { 0, 1, 2, 3, 4, 5, 6, 7, 8, 9, 10, 11, 12, 13, 14, 15 };
-    static const uint8_t confounder[16] = { 0 };
-    static uint8_t text[KRBRELAY_USER_DATA_LIMIT - 1], frame[KRBRELAY_FRAME_LIMIT];
-    const struct krbrelay_session session = { .mode = KRBRELAY_SAFE, .first = number,
-                                              .sender = { 2, 4, { 10, 0, 0, 1 } } };
-    struct krbrelay_sealer sealer = KRBRELAY_INIT;
-    struct krbrelay_moment now;
-    size_t len = 0;
+    static uint8_t text[KRBRELAY_USER_DATA_LIMIT - 1];
     memset(text, (int)number, sizeof text);
-    check(krbrelay_now(&now) == KRBRELAY_OK
-          && krbrelay_sealer_new(&sealer, 17, key, sizeof key, &session) == KRBRELAY_OK
-          && krbrelay_sealer_seal_record(&sealer, KRBRELAY_TEXT, text, sizeof text, &now, confounder, frame,
-                                         sizeof frame, &len) == KRBRELAY_OK, "the longest record is sealed");
-    krbrelay_sealer_free(&sealer);
-    publish_as(carrier, "tom", number, frame, len);
+    publish_record(carrier, "tom", number, KRBRELAY_TEXT, text, sizeof text);
 }
 
 static void test_longest(struct shard *shard, struct carrier *carrier, sqlite3 *store)

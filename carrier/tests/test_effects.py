@@ -66,6 +66,27 @@ for line in sys.stdin:
 """
 
 
+def await_so(is_so, told=lambda: None):
+    """Waits until it is so; what is told then is known of a test that fails."""
+    until = time.monotonic() + TO_WAIT
+    while not is_so():
+        assert time.monotonic() < until, told()
+        time.sleep(0.02)
+
+
+def end(*processes, seconds=30):
+    """SIGTERM ends each, and well."""
+    for it in processes:
+        it.terminate()
+        assert it.wait(seconds) == 0
+
+
+def write_private(path, text):
+    """Writes a file of its owner alone."""
+    with open(path, "w", encoding="ascii", opener=lambda path, how: os.open(path, how, 0o600)) as file:
+        file.write(text)
+
+
 def both_programs(shared, prefix, name, postgresql="no"):
     """A folder of this name with sender and receiver, without NATS."""
     def build(folder):
@@ -95,8 +116,7 @@ class Ends:
     def __init__(self, programs, folder, prefix):
         self.programs, self.folder, self.prefix = programs, str(folder), prefix
         self.both = ["--sessions", f"{folder}/sessions", "--carrier", f"sqlite:{folder}/carrier.db"]
-        with open(f"{folder}/sessions", "w", encoding="ascii", opener=lambda path, how: os.open(path, how, 0o600)) as file:
-            file.write(f"tom {KEY}\nann {KEY.replace('22' * 32, '23' * 32)}\n")
+        write_private(f"{folder}/sessions", f"tom {KEY}\nann {KEY.replace('22' * 32, '23' * 32)}\n")
         self.batch, self.store = "1", f"sqlite:{folder}/store.db"
         self.sender("--drain").wait()
 
@@ -148,16 +168,10 @@ class Ends:
         return rounds
 
     def await_frames(self, number):
-        until = time.monotonic() + TO_WAIT
-        while self.next()[0] < number and not self.next()[1]:
-            assert time.monotonic() < until, self.log()[-2000:]
-            time.sleep(0.01)
+        await_so(lambda: self.next()[0] >= number or self.next()[1], lambda: self.log()[-2000:])
 
     def await_log(self, words):
-        until = time.monotonic() + TO_WAIT
-        while words not in self.log():
-            assert time.monotonic() < until, self.log()[-2000:]
-            time.sleep(0.1)
+        await_so(lambda: words in self.log(), lambda: self.log()[-2000:])
 
     def next(self):
         """The number that the store demands, and whether the session is closed."""
@@ -185,9 +199,9 @@ def compiled(ends):
     with open(f"{ends.folder}/mine.c", "w", encoding="ascii") as file:
         file.write(OBJECT)
     made = f"{ends.folder}/mine.so"
-    subprocess.run([*c_tools.c_compiler(), "-shared", "-fPIC", *(f"-I{SOURCES}/{it}" for it in ("effects", "stores", "sessions")), f"-I{ends.prefix}/include",
-                    f'-DWRITTEN="{ends.folder}/written"',
-                    f"{ends.folder}/mine.c", "-o", made], check=True)
+    folders = (f"{SOURCES}/effects", f"{SOURCES}/stores", f"{SOURCES}/sessions", f"{ends.prefix}/include")
+    subprocess.run([*c_tools.c_compiler(), "-shared", "-fPIC", *(f"-I{it}" for it in folders),
+                    f'-DWRITTEN="{ends.folder}/written"', f"{ends.folder}/mine.c", "-o", made], check=True)
     return f"object:{made}"
 
 
@@ -284,8 +298,7 @@ def waits(ends, *words, seconds=3):
     assert ends.sender("--drain").wait(60) == 0
     process = ends.receiver(*words)
     time.sleep(seconds)
-    process.terminate()
-    assert process.wait(30) == 0
+    end(process)
 
 
 def test_without_put_aside_it_is_tried_again(ends):
@@ -365,8 +378,7 @@ def test_what_a_slow_command_has_answered_is_stored_when_its_receiver_ends(ends)
         process = ends.receiver("--effect", f"command:while read line; do sleep 0.05; echo \"$line\" >> {ends.folder}/slow;"
                                             " echo ok; done")
         ends.await_frames(before + 10)
-        process.terminate()
-        assert process.wait(30) == 0
+        end(process)
         with open(f"{ends.folder}/slow", encoding="ascii") as file:
             assert len(file.readlines()) <= ends.next()[0] - 1 + 3       # one text for each end
     assert ends.next()[0] > 30
@@ -380,8 +392,7 @@ def test_a_command_that_ignores_its_end_is_over_with_its_receiver(ends):
     while not os.path.exists(f"{ends.folder}/begun"):
         assert process.poll() is None
         time.sleep(0.01)
-    process.terminate()
-    assert process.wait(10) == 0
+    end(process, seconds=10)
     left = subprocess.run(["pgrep", "-f", f"sleep 1000; : {ends.folder}"], check=False, capture_output=True, text=True)
     assert left.stdout == ""
 
@@ -399,8 +410,7 @@ def test_a_store_that_is_another_file_is_noticed(ends):
             os.unlink(f"{ends.folder}/{name}")
     os.rename(f"{ends.folder}/older.db", f"{ends.folder}/store.db")
     ends.await_log("event=store_replaced")
-    receiver.terminate()
-    assert receiver.wait(30) == 0
+    end(receiver)
     assert ends.receiver("--until-closed").wait(60) == 0
     assert ends.run("store", "SELECT text FROM effect ORDER BY id") == [(it,) for it in texts(5)[:-1]]
 

@@ -5,13 +5,12 @@ import os
 import shutil
 import subprocess
 import tempfile
-import time
 
 import engines
 import psycopg2
 import pytest
 from test_put_get import carrier, ran
-from test_effects import TO_WAIT, Ends, both_programs, compiled, most_times, texts
+from test_effects import Ends, await_so, both_programs, compiled, end, most_times, texts
 
 # A cast isn't a name, and nor is what is in quotes.
 STATEMENT = "sql:INSERT INTO mine (session, number, part, text, again) VALUES (:session, :number, :part::int, :text, ':no')"
@@ -98,8 +97,8 @@ def test_a_table_that_is_not_there_puts_nothing_aside(ends):
     assert ends.sender("--drain").wait(60) == 0
     process = ends.receiver("--effect", STATEMENT, "--put-aside", "1")
     ends.await_log("does not exist")
-    process.terminate()
-    assert process.wait(30) == 0 and ends.texts_of("aside") == []
+    end(process)
+    assert ends.texts_of("aside") == []
     ends.server.ask(MINE.format(""))
     ends.to_the_end("--effect", STATEMENT, "--put-aside", "1")
     assert ends.texts_of("mine") == [b"one"] and ends.texts_of("aside") == []
@@ -128,9 +127,7 @@ def test_a_server_that_is_away_puts_nothing_aside(ends):
         ends.await_frames(number)
         ends.server.restart(0.3)
     ends.await_frames(10_000)
-    for it in started:
-        it.terminate()
-        assert it.wait(30) == 0
+    end(*started)
     assert ends.texts_of("mine") == texts(600) and ends.texts_of("aside") == []
 
 
@@ -141,8 +138,6 @@ def test_a_receiver_whose_statement_goes_on_ends_in_time(ends):
     assert ends.sender("--drain").wait(60) == 0
     process = ends.receiver("--effect", "sql:INSERT INTO mine (text, again) SELECT :text, pg_sleep(25)::text")
     asked = "SELECT 1 FROM pg_stat_activity WHERE state = 'active' AND query LIKE 'INSERT%pg_sleep(25)%'"
-    until = time.monotonic() + TO_WAIT
-    while not ends.server.ask(asked):
-        assert time.monotonic() < until, ends.log()[-2000:]
+    await_so(lambda: ends.server.ask(asked), lambda: ends.log()[-2000:])
     process.terminate()
     assert process.wait(8) == 0 and ends.texts_of("mine") == []

@@ -2,12 +2,11 @@
 derived from it: in whole runs with receipts, where the file of keys is refused, and where an allocation fails.
 What SQLite frees has texts, so these are looked for in the units alone (left.h)."""
 import contextlib
-import os
 import sqlite3
 import subprocess
 
 import pytest
-from test_effects import both_programs
+from test_effects import both_programs, write_private
 
 from lib import scripts
 from lib.build import c_tools
@@ -33,9 +32,7 @@ class Watched:
         self.watch, self.strings = residue.Watch(self.folder), residue.strings_of(KEYS)
 
     def file(self, text=LINE):
-        with open(f"{self.folder}/sessions", "w", encoding="ascii",
-                  opener=lambda path, how: os.open(path, how, 0o600)) as file:
-            file.write(text)
+        write_private(f"{self.folder}/sessions", text)
 
     def run(self, name, *words, refuse=0):
         """Its status, how many blocks it freed, and what was found in them."""

@@ -14,6 +14,7 @@ import urllib.request
 
 import engines
 import pytest
+from test_effects import write_private
 
 from lib.build import c_tools
 
@@ -87,8 +88,7 @@ def test_units_allow_what_the_programs_call(prefix, of_nobody):
     """The filter of both units has each call of a session over SQLite with metrics and a command as its effect."""
     allowed = calls_of("@system-service") - calls_of("@privileged") - calls_of("@resources")
     build(f"{of_nobody}/programs", prefix)
-    with open(f"{of_nobody}/sessions", "w", encoding="ascii", opener=lambda path, how: os.open(path, how, 0o600)) as file:
-        file.write(f"tom {KEY}\n")
+    write_private(f"{of_nobody}/sessions", f"tom {KEY}\n")
     for path in (of_nobody, f"{of_nobody}/sessions"):
         shutil.chown(path, "nobody", "nogroup")
     of_sender, of_receiver = (f"127.0.0.1:{port}" for port in engines.free_ports(2))
@@ -161,8 +161,7 @@ def scraped(prefix, tmp_path_factory):
     folder = str(tmp_path_factory.mktemp("prometheus"))
     build(f"{folder}/programs", prefix)
     of_sender, of_receiver, own = engines.free_ports(3)
-    with open(f"{folder}/sessions", "w", encoding="ascii", opener=lambda path, how: os.open(path, how, 0o600)) as file:
-        file.write(f"tom {KEY}\n")
+    write_private(f"{folder}/sessions", f"tom {KEY}\n")
     with open(os.path.join(MONITORING, "prometheus.yml"), encoding="utf-8") as file:
         config = file.read().replace("9750", str(of_sender)).replace("9751", str(of_receiver)).replace("15s", "1s")
     with open(f"{folder}/prometheus.yml", "w", encoding="utf-8") as file:

@@ -9,10 +9,10 @@ import signal
 import sqlite3
 import subprocess
 import sys
-import time
 
 import pytest
-from test_effects import SOURCES, TO_WAIT, Ends, _files_of_their_owner_alone, both_programs  # noqa: F401
+from test_effects import (  # noqa: F401
+    SOURCES, TO_WAIT, Ends, _files_of_their_owner_alone, await_so, both_programs, end)
 
 from lib.build import building
 
@@ -54,14 +54,10 @@ def deliver(ends, meanwhile=lambda: None, at_last=lambda: None):
     started = [ends.sender(), ends.receiver()]
     meanwhile()
     with contextlib.closing(sqlite3.connect(f"{ends.folder}/outbox.db", timeout=30)) as file:
-        until = time.monotonic() + TO_WAIT
-        while file.execute("SELECT (SELECT count(*) FROM text) + (SELECT count(*) FROM sealed)").fetchone()[0]:
-            assert time.monotonic() < until, ends.log()[-2000:]
-            time.sleep(0.05)
+        waiting = "SELECT (SELECT count(*) FROM text) + (SELECT count(*) FROM sealed)"
+        await_so(lambda: not file.execute(waiting).fetchone()[0], lambda: ends.log()[-2000:])
         at_last()
-    for it in started:
-        it.send_signal(signal.SIGTERM)
-        assert it.wait(TO_WAIT) == 0
+    end(*started)
 
 
 def test_what_was_put_is_got(ends):
@@ -104,9 +100,7 @@ def test_waiting_for_a_receipt(ends):
     started = [ends.sender(), ends.receiver()]
     assert put(ends, "--wait", "60", "tom", given=b"b") == (0, "", "")
     assert [it["text"] for it in got(ends)] == ["a", "b"]
-    for it in started:
-        it.send_signal(signal.SIGTERM)
-        it.wait(TO_WAIT)
+    end(*started)
 
 
 def frames_of(ends):
@@ -121,20 +115,15 @@ def test_frames_with_a_receipt_are_deleted_after_a_transaction_that_failed(ends)
     assert ends.sender("--drain").wait(TO_WAIT) == 0
     receiver = ends.receiver()
     ends.await_frames(2)
-    receiver.send_signal(signal.SIGTERM)
-    assert receiver.wait(TO_WAIT) == 0 and frames_of(ends) == 2
+    end(receiver)
+    assert frames_of(ends) == 2
     ends.run("outbox", "CREATE TRIGGER no BEFORE DELETE ON frame WHEN (SELECT count(*) FROM frame) = 1"
              " BEGIN SELECT RAISE(ABORT, 'not now'); END")
-    sender, until = ends.sender(), time.monotonic() + TO_WAIT
-    while b"not now" not in pathlib.Path(f"{ends.folder}/sender.log").read_bytes():
-        assert time.monotonic() < until
-        time.sleep(0.05)
+    sender = ends.sender()
+    await_so(lambda: b"not now" in pathlib.Path(f"{ends.folder}/sender.log").read_bytes())
     ends.run("outbox", "DROP TRIGGER no")
-    while frames_of(ends):
-        assert time.monotonic() < until, "a frame stays"
-        time.sleep(0.05)
-    sender.send_signal(signal.SIGTERM)
-    assert sender.wait(TO_WAIT) == 0
+    await_so(lambda: not frames_of(ends), lambda: "a frame stays")
+    end(sender)
 
 
 def test_a_session_whose_shard_changes_before_it_is_read(ends):
@@ -150,8 +139,7 @@ def test_a_session_whose_shard_changes_before_it_is_read(ends):
     receiver = ends.start("receiver", "--store", ends.store, "--shards", "0,1")
     ends.await_frames(4)
     assert [it["text"] for it in got(ends)] == ["a", "b", "c"]
-    receiver.send_signal(signal.SIGTERM)
-    assert receiver.wait(TO_WAIT) == 0
+    end(receiver)
 
 
 def test_following(ends):

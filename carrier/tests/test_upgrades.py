@@ -7,12 +7,10 @@ sealed, and waiting, with the close. A text of kim took effect, and its sender h
 a text that waits and was never sealed from, and sue had no line."""
 import contextlib
 import os
-import signal
 import sqlite3
-import time
 
 import pytest
-from test_effects import HERE, TO_WAIT, Ends, _files_of_their_owner_alone, both_programs  # noqa: F401
+from test_effects import HERE, Ends, _files_of_their_owner_alone, await_so, both_programs, end  # noqa: F401
 
 # Of each session the key, that of the way back, how many texts were put in, how many of them waited, how many frames were kept, how
 # many texts had taken effect, when the dumps were made, and whether it is closed.
@@ -59,13 +57,9 @@ def test_each_text_takes_effect_once(programs, tmp_path, version):
     ends = Old(programs, tmp_path, version)
     assert ends.states() == {name: it[3:6] for name, it in SESSIONS.items()}
     started = [ends.start("receiver", "--store", ends.store, "--shards", "0-1", "--skew", EVER), ends.sender()]
-    until = time.monotonic() + TO_WAIT
-    while ends.run("outbox", LEFT)[0][0]:
-        assert time.monotonic() < until, (ends.run("outbox", "SELECT * FROM stopped"), ends.log()[-2000:])
-        time.sleep(0.1)
-    for it in started:
-        it.send_signal(signal.SIGTERM)
-        assert it.wait(TO_WAIT) == 0
+    await_so(lambda: not ends.run("outbox", LEFT)[0][0],
+             lambda: (ends.run("outbox", "SELECT * FROM stopped"), ends.log()[-2000:]))
+    end(*started)
     assert ends.effects() == {name: [(number + 1, b"%c%d" % (ord(name[0]), number + 1)) for number in range(it[2])]
                               for name, it in SESSIONS.items()}
     assert dict(ends.run("store", "SELECT name, closed FROM session")) == {name: it[6] for name, it in SESSIONS.items()}

@@ -7,7 +7,7 @@ import subprocess
 import time
 
 import pytest
-from test_effects import both_programs
+from test_effects import both_programs, write_private
 
 SESSIONS, SHARDS = 10_000, 2
 WINDOW, MOST_A_SECOND = 5, 2    # seconds in which wakes are counted, of all threads of a program
@@ -25,18 +25,11 @@ def programs(shared, prefix):
     return both_programs(shared, prefix, "programs_that_wait")
 
 
-def write_sessions(folder):
-    def private(path, how):
-        return os.open(path, how, 0o600)
-    with open(folder / "sessions", "w", encoding="ascii", opener=private) as file:
-        file.writelines(f"s{i} {i % SHARDS} 18 priv {i:064x} 1 10.0.0.1 10.0.0.2\n"
-                        for i in range(SESSIONS))
-
-
 @pytest.fixture
 def running(programs, tmp_path):
     """Both programs, in whose folder the databases are."""
-    write_sessions(tmp_path)
+    write_private(tmp_path / "sessions", "".join(f"s{i} {i % SHARDS} 18 priv {i:064x} 1 10.0.0.1 10.0.0.2\n"
+                                                 for i in range(SESSIONS)))
     with contextlib.ExitStack() as stack:
         def start(name, *words):
             log = stack.enter_context(open(tmp_path / f"{name}.log", "wb"))
