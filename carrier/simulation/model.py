@@ -122,6 +122,8 @@ class Sending:
         heard = self.find(receipt, own, now)
         if self.is_asked(receipt, now):
             self.heed(receipt.asks, now)
+        elif receipt.asks == Asks.REFUSED and receipt.number == self.done < self.next and not self.ended:
+            self.is_held = True
         return heard
 
     def find(self, receipt: Receipt, own: bytes, now: int) -> Heard:

@@ -69,8 +69,10 @@ class Senders(unittest.TestCase):
         self.assertEqual((sending.serve(256, 6_100), sending.stands), (Wake(10_100), Stands.REFUSED))
         self.assertEqual(sending.serve(256, 10_100), Publish(2, 1))
         sending.confirmed(2, 10, 10_100)
-        sending.receipt(Receipt(2, OWN, Asks.REFUSED), OWN, 10_100)
-        self.assertEqual([sending.serve(256, it) for it in (10_100, 18_100)], [Wake(18_100), Publish(2, 1)])
+        for asks, now, stands in (Asks.MISSING, 10_100, None), (Asks.REFUSED, 10_200, Stands.REFUSED):
+            sending.receipt(Receipt(2, OWN, asks), OWN, now)
+            self.assertEqual(sending.stands, stands)
+        self.assertEqual([sending.serve(256, it) for it in (10_200, 18_100)], [Wake(18_100), Publish(2, 1)])
         self.assertEqual(sending.receipt(Receipt(4, OWN), OWN, 18_200), Heard.DELIVERED)
         self.assertEqual((sending.done, sending.serve(256, 18_200), sending.is_settled), (4, Idle(), True))
 
