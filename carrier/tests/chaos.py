@@ -322,7 +322,7 @@ class Noise:
             except (OSError, sqlite3.Error):        # a node is away, or there is no frame yet
                 self.connection = None
             time.sleep(had / RATE or 0.01)
-        self.is_over = bool(self.counts)
+        self.is_over = True
 
     def disturb_file(self, shard):
         """Some frames from a drawn place of a shard on: so many."""
