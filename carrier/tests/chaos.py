@@ -336,7 +336,7 @@ class Noise:
 
     def disturb_stream(self, shard):
         if not self.connection:
-            self.connection = jetstream.Connection(self.dice.choice(self.nats.ports))
+            self.connection = jetstream.Connection(self.dice.choice(self.nats.ports), patience=1)
             self.connection.subscribe(jetstream.INBOX)
         offsets = self.connection.offsets(shard)
         begin = self.dice.randrange(len(offsets) or 1)
