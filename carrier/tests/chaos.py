@@ -322,7 +322,7 @@ class Noise:
             except (OSError, sqlite3.Error):        # a node is away, or there is no frame yet
                 self.connection = None
             time.sleep(had / RATE or 0.01)
-        self.is_over = bool(self.counts)
+        self.is_over = True
 
     def disturb_file(self, shard):
         """Some frames from a drawn place of a shard on: so many."""
@@ -336,7 +336,7 @@ class Noise:
 
     def disturb_stream(self, shard):
         if not self.connection:
-            self.connection = jetstream.Connection(self.dice.choice(self.nats.ports))
+            self.connection = jetstream.Connection(self.dice.choice(self.nats.ports), patience=1)
             self.connection.subscribe(jetstream.INBOX)
         offsets = self.connection.offsets(shard)
         begin = self.dice.randrange(len(offsets) or 1)

@@ -24,7 +24,8 @@ import time
 SIZE, AT_ONCE = 2048, 64
 TUNSETIFF, TAP, NO_PI = 0x400454ca, 2, 0x1000
 QUEUE = 4.0         # seconds: what a line would take longer for is lost
-LOST = (errno.EAGAIN, errno.EIO, errno.ENOBUFS)     # a device whose machine doesn't read loses what comes, as a wire does
+# What a device says whose machine doesn't read: it loses what comes, as a wire does.
+LOST = (errno.EAGAIN, errno.EIO, errno.ENOBUFS)
 
 
 def open_device(name):
