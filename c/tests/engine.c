@@ -1,6 +1,6 @@
-/* The ends of a carrier: structs that are no end, handles that are freed twice, and as many idle sessions as a sender may
- * have. What each call does, by docs/ENGINE.md, is tested over the same library by python/tests/test_engine.py, and over
- * drawn calls beside a model by carrier/tests/test_simulation_model.py.
+/* The ends of a carrier: structs that are no end, handles that are freed twice, and as many idle sessions as a sender
+ * may have. What each call does, by docs/ENGINE.md, is tested over the same library by python/tests/test_engine.py, and
+ * over drawn calls beside a model by carrier/tests/test_simulation_model.py.
  *
  *     engine [SESSIONS] */
 #include "check.h"
@@ -63,10 +63,10 @@ static void no_ends(void)
     CHECK(it.progress.next == UINT64_MAX);
 }
 
-/* Rows that are none, which the Python package doesn't pass on; and what a session's end is after a receipt that ends it. */
+/* Rows that are none, which the Python package doesn't pass on; and a session's end after a receipt that ends it. */
 static void no_lane(void)
 {
-    static const struct krbrelay_stored none = { .next = 3, .carried = 4 }, behind = { .next = 9, .carried = 4, .done = 5 };
+    static const struct krbrelay_stored none = { 3, 4, 0, 0, 0 }, behind = { 9, 4, 0, 5, 0 };
     static const struct krbrelay_stored stored = { .next = 3, .list = 7 };
     static const struct krbrelay_receipt no_receipt, forked = { .number = 3, .asks = KRBRELAY_ASKS_NOTHING };
     struct krbrelay_lane lane = KRBRELAY_INIT;

@@ -1,5 +1,5 @@
-/* What the benchmarks have in common: clocks, and MIT's end of a session: an auth context of the key, with one address of
- * its own and one of the other end, which checks numbers and times. */
+/* What the benchmarks have in common: clocks, and MIT's end of a session: an auth context of the key, with one address
+ * of its own and one of the other end, which checks numbers and times. */
 #ifndef MIT_END_H
 #define MIT_END_H
 #include "mit_library.h"
