@@ -140,19 +140,26 @@ static void no_reading(void)
     CHECK(memcmp(&r, &before, sizeof r) == 0 && read == 99);
 }
 
-/* Fields that aren't 0: of an opening, and of what is seen of a frame. */
-static void reserved_fields(void)
+/* Fields that aren't 0: of an opening, and of what is seen of a frame; and numbers that a shard doesn't have. */
+static void no_arguments(void)
 {
     static const struct krbrelay_head head = { .turn = 3, .number = 9, .history = { 1 }, .closed = 1 };
     static const struct krbrelay_opening opening = { .turn = 4, .number = 9, .history = { 1 }, .reserved = 1 };
     static const struct krbrelay_seen seen = { .accepted = 1, .reserved = 1 };
     static const struct krbrelay_row row = { .number = 7 };
     struct krbrelay_shard shard = KRBRELAY_INIT;
+    struct krbrelay_receiving end;
     uint32_t told = 99;
     IS_NOT(krbrelay_judge(&head, &opening, &told));
     IS(krbrelay_shard_new(&shard, 0, 0));
     IS(krbrelay_shard_loaded(&shard, 7, 4));
     IS(krbrelay_shard_add(&shard, &row, &told));
+    IS_NOT(krbrelay_shard_pass(&shard, 5));
+    IS_NOT(krbrelay_shard_session(&shard, 1, &end));
+    IS_NOT(krbrelay_shard_unpaid(&shard, 1, KRBRELAY_ASKS_NOTHING));
+    IS_NOT(krbrelay_shard_unpaid(&shard, 0, 0));
+    IS_NOT(krbrelay_shard_failed(&shard, 5, 5, &told));
+    IS_NOT(krbrelay_shard_failed(&shard, 0, 5, &told));
     IS(krbrelay_shard_begin(&shard, 5, 1000, &told));
     told = 99;
     IS_NOT(krbrelay_shard_take(&shard, 0, own, 1, &seen, 5, &told));
@@ -225,7 +232,7 @@ int main(int argc, char **argv)
     RUN(no_flow());
     RUN(no_receivers());
     RUN(no_reading());
-    RUN(reserved_fields());
+    RUN(no_arguments());
     RUN(freed_twice());
     RUN(many(argc > 1 ? strtoul(argv[1], NULL, 10) : 100000));
     return check_status("engine");
