@@ -31,13 +31,6 @@ struct ends {
 /* The seconds of a batch, the best so far. */
 struct best { double together, made, read, in_place, mit_made, mit_read, handles; };
 
-static double clock_at(clockid_t clock)
-{
-    struct timespec t;
-    clock_gettime(clock, &t);
-    return (double)t.tv_sec + (double)t.tv_nsec * 1e-9;
-}
-
 /* The processor time that the work takes, if it is the least so far. */
 static void measure(double *least, void (*work)(struct ends *), struct ends *e)
 {
@@ -46,13 +39,6 @@ static void measure(double *least, void (*work)(struct ends *), struct ends *e)
     taken = clock_at(CLOCK_THREAD_CPUTIME_ID) - start;
     if (taken < *least)
         *least = taken;
-}
-
-static struct krbrelay_moment moment_of_now(void)
-{
-    struct timespec now;
-    clock_gettime(CLOCK_REALTIME, &now);
-    return moment((uint64_t)now.tv_sec, (uint32_t)(now.tv_nsec / 1000));
 }
 
 static void draw(const struct ends *e, uint8_t confounder[16])

@@ -21,13 +21,6 @@ static krb5_data mit_frames[MOST];
 
 struct row { uint32_t mode; int etype; unsigned count; };
 
-static double clock_at(clockid_t clock)
-{
-    struct timespec t;
-    clock_gettime(clock, &t);
-    return (double)t.tv_sec + (double)t.tv_nsec * 1e-9;
-}
-
 static void measure(double *least, void (*work)(const struct row *), const struct row *r)
 {
     double start = clock_at(CLOCK_THREAD_CPUTIME_ID), taken;
@@ -35,13 +28,6 @@ static void measure(double *least, void (*work)(const struct row *), const struc
     taken = clock_at(CLOCK_THREAD_CPUTIME_ID) - start;
     if (taken < *least)
         *least = taken;
-}
-
-static struct krbrelay_moment moment_of_now(void)
-{
-    struct timespec now;
-    clock_gettime(CLOCK_REALTIME, &now);
-    return moment((uint64_t)now.tv_sec, (uint32_t)(now.tv_nsec / 1000));
 }
 
 /* ---- sessions of ours */

@@ -1,6 +1,6 @@
-/* Opening with demands: what isn't authentic is refused, and the longest addresses; and NULL with length 0. Which demands
- * there are is tested by fields.c; which messages meet them by the conformance suite, which reads its cases by this
- * library too, and by python/tests/test_opener.py; records, receivers, modes and opening in place by sequences.py.
+/* Opening with demands: what isn't authentic is refused, and the longest addresses; and NULL with length 0. Which
+ * demands there are is tested by fields.c; which messages meet them by the conformance suite, which reads its cases by
+ * this library too, and by python/tests/test_opener.py; records, receivers, modes and opening in place by sequences.py.
  * Frames are those of an independent sealer (frames.h). */
 #include "check.h"
 #include "frames.h"

@@ -1,6 +1,6 @@
-/* The ends of a carrier: structs that are no end, handles that are freed twice, and as many idle sessions as a sender may
- * have. What each call does, by docs/ENGINE.md, is tested over the same library by python/tests/test_engine.py, and over
- * drawn calls beside a model by carrier/tests/test_simulation_model.py.
+/* The ends of a carrier: structs that are no end, handles that are freed twice, and as many idle sessions as a sender
+ * may have. What each call does, by docs/ENGINE.md, is tested over the same library by python/tests/test_engine.py, and
+ * over drawn calls beside a model by carrier/tests/test_simulation_model.py.
  *
  *     engine [SESSIONS] */
 #include "check.h"
@@ -63,10 +63,10 @@ static void no_ends(void)
     CHECK(it.progress.next == UINT64_MAX);
 }
 
-/* Rows that are none, which the Python package doesn't pass on; and what a session's end is after a receipt that ends it. */
+/* Rows that are none, which the Python package doesn't pass on; and a session's end after a receipt that ends it. */
 static void no_lane(void)
 {
-    static const struct krbrelay_stored none = { .next = 3, .carried = 4 }, behind = { .next = 9, .carried = 4, .done = 5 };
+    static const struct krbrelay_stored none = { 3, 4, 0, 0, 0 }, behind = { 9, 4, 0, 5, 0 };
     static const struct krbrelay_stored stored = { .next = 3, .list = 7 };
     static const struct krbrelay_receipt no_receipt, forked = { .number = 3, .asks = KRBRELAY_ASKS_NOTHING };
     struct krbrelay_lane lane = KRBRELAY_INIT;
@@ -140,19 +140,26 @@ static void no_reading(void)
     CHECK(memcmp(&r, &before, sizeof r) == 0 && read == 99);
 }
 
-/* Fields that aren't 0: of an opening, and of what is seen of a frame. */
-static void reserved_fields(void)
+/* Fields that aren't 0: of an opening, and of what is seen of a frame; and numbers that a shard doesn't have. */
+static void no_arguments(void)
 {
     static const struct krbrelay_head head = { .turn = 3, .number = 9, .history = { 1 }, .closed = 1 };
     static const struct krbrelay_opening opening = { .turn = 4, .number = 9, .history = { 1 }, .reserved = 1 };
     static const struct krbrelay_seen seen = { .accepted = 1, .reserved = 1 };
     static const struct krbrelay_row row = { .number = 7 };
     struct krbrelay_shard shard = KRBRELAY_INIT;
+    struct krbrelay_receiving end;
     uint32_t told = 99;
     IS_NOT(krbrelay_judge(&head, &opening, &told));
     IS(krbrelay_shard_new(&shard, 0, 0));
     IS(krbrelay_shard_loaded(&shard, 7, 4));
     IS(krbrelay_shard_add(&shard, &row, &told));
+    IS_NOT(krbrelay_shard_pass(&shard, 5));
+    IS_NOT(krbrelay_shard_session(&shard, 1, &end));
+    IS_NOT(krbrelay_shard_unpaid(&shard, 1, KRBRELAY_ASKS_NOTHING));
+    IS_NOT(krbrelay_shard_unpaid(&shard, 0, 0));
+    IS_NOT(krbrelay_shard_failed(&shard, 5, 5, &told));
+    IS_NOT(krbrelay_shard_failed(&shard, 0, 5, &told));
     IS(krbrelay_shard_begin(&shard, 5, 1000, &told));
     told = 99;
     IS_NOT(krbrelay_shard_take(&shard, 0, own, 1, &seen, 5, &told));
@@ -225,7 +232,7 @@ int main(int argc, char **argv)
     RUN(no_flow());
     RUN(no_receivers());
     RUN(no_reading());
-    RUN(reserved_fields());
+    RUN(no_arguments());
     RUN(freed_twice());
     RUN(many(argc > 1 ? strtoul(argv[1], NULL, 10) : 100000));
     return check_status("engine");

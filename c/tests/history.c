@@ -5,7 +5,7 @@
 
 #include <string.h>
 
-/* Frames of both kinds, one that is shorter than a code, and one of no bytes, by NULL too; each after those before it. */
+/* Frames of both kinds, one that is shorter than a code, and one of no bytes, by NULL; each after those before it. */
 static const struct { const uint8_t *frame; size_t len; const char *digest; } known[] = {
     { safe_17, sizeof safe_17, "\xd6\x24\x0c\xe1\xbf\x87\xf7\x25\x39\x29\xa8\xcb\x1c\xf4\xf1\xfa\xb6\x5a\xf9\xdb" },
     { priv_18, sizeof priv_18, "\x92\x31\xdf\x25\xa0\xe1\x27\xda\x58\x42\xe4\x7e\xc0\xb5\x6f\x07\x1d\x9e\x98\xb0" },

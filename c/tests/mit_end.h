@@ -1,9 +1,10 @@
-/* MIT's end of a session: an auth context of the key, with one address of its own and one of the
- * other end, which checks numbers and times. */
+/* What the benchmarks have in common: clocks, and MIT's end of a session: an auth context of the key, with one address
+ * of its own and one of the other end, which checks numbers and times. */
 #ifndef MIT_END_H
 #define MIT_END_H
 #include "mit_library.h"
 #include "session.h"
+#include <time.h>
 
 static uint8_t key[32];
 
@@ -22,4 +23,17 @@ static krb5_auth_context mit_end(int etype, uint8_t from, uint8_t to)
     return c;
 }
 
+static inline double clock_at(clockid_t clock)
+{
+    struct timespec t;
+    clock_gettime(clock, &t);
+    return (double)t.tv_sec + (double)t.tv_nsec * 1e-9;
+}
+
+static inline struct krbrelay_moment moment_of_now(void)
+{
+    struct timespec now;
+    clock_gettime(CLOCK_REALTIME, &now);
+    return moment((uint64_t)now.tv_sec, (uint32_t)(now.tv_nsec / 1000));
+}
 #endif

@@ -1,6 +1,6 @@
 /* Peers, and krbrelay_receiver_take_numbered: two ends of a session in both directions, what a refusal
- * by its number tells, exports, several messages in one call, and the order of the reasons of the calls that make a peer:
- * that of the other calls is tested by sequences.py, and which demands a peer takes by fields.c. */
+ * by its number tells, exports, several messages in one call, and the order of the reasons of the calls that make a
+ * peer: that of the other calls is tested by sequences.py, and which demands a peer takes by fields.c. */
 #include "check.h"
 #include "frames.h"
 #include "krbrelay.h"

@@ -7,8 +7,8 @@
 #include <sys/socket.h>
 #include <netinet/in.h>
 
-/* Each call, upon `given`, `told` and `handles`: CALL answers as it does, DOES is of one that answers nothing, SAYS of one
- * that has to say this, and REFUSES of one upon a handle that holds nothing. */
+/* Each call, upon `given`, `told` and `handles`: CALL answers as it does, DOES is of one that answers nothing, SAYS of
+ * one that has to say this, and REFUSES of one upon a handle that holds nothing. */
 #define FUNCTION(name) static uint32_t name(void)
 #define CALL(name, ...) FUNCTION(name) { return krbrelay_##name(__VA_ARGS__); }
 #define DOES(name, ...) FUNCTION(name) { krbrelay_##name(__VA_ARGS__); return KRBRELAY_OK; }
