@@ -28,7 +28,7 @@ from oracle import frames, opener, reader  # noqa: E402
 
 HANDLES, FRAMES, KEPT, LONGEST, DATA, SEVERAL, TOGETHER = 4, 16, 8, 600, 48, 13, 10
 NUMBERS, LAST = 512, 2**32 - 1
-SECONDS, YEAR_10000 = 1_700_000_000, 253_402_300_800
+SECONDS, YEAR_10000, EDGES = 1_700_000_000, 253_402_300_800, (-300_000_000, 300_000_001)
 KEYS = {17: bytes(range(16)), 18: bytes([0x11]) * 32}
 SAFE, PRIV = 20, 21
 TEXT, BATCH, CLOSE = 1, 2, 3
@@ -518,6 +518,8 @@ class Sequences:
         """Several frames in one call, of which the receiver may accept some."""
         by, (at, reason), used = self.receivers[i], self.some_moment(), 0
         chosen = [self.fitting_frame(by, by.number) for _ in range(self.draw(TOGETHER + 1))]
+        if chosen and reason == A.OK and self.one_in(2):        # at an edge of the skew
+            at.seconds, at.microseconds = divmod(micros(chosen[0].at) + self.random.choice(EDGES), 1_000_000)
         room = TOGETHER * LONGEST if self.one_in(2) else self.draw(TOGETHER * LONGEST // 4)
         given = (c.FrameStruct * (TOGETHER + 1))(*(c.FrameStruct(it.frame, len(it.frame)) for it in chosen))
         taken = (c.TakenStruct * (TOGETHER + 1))(*(c.TakenStruct(555, 99, UNTOLD, UNTOLD) for _ in chosen))
