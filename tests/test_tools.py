@@ -8,6 +8,7 @@ import os
 import re
 import subprocess
 import sys
+import tomllib
 
 import pytest
 
@@ -402,6 +403,15 @@ def test_a_plant_applies_and_names_checks(name):
     plant = PLANTS[name]
     assert all(text != building.text_of(path) for path, text in planted.applied(plant, building.text_of).items())
     assert {it.split()[0] for it in plant.checks} <= set(checks.CHECKS)
+
+
+FAULTS = tomllib.loads(building.text_of("conformance/faults.toml"))
+
+
+@pytest.mark.parametrize("fault", FAULTS.values(), ids=FAULTS)
+def test_a_fault_of_the_conformance_suite_has_one_place(fault):
+    """conformance/test --plant plants all of them at once."""
+    assert building.text_of(f"crates/{fault['file']}").count(fault["old"]) == 1
 
 
 @pytest.mark.parametrize("name", [it for it in PLANTS if PLANTS[it].wraps])
