@@ -116,7 +116,7 @@ LIBRARY = Part("c/library --build", 80, ("rt", COMPILER, MAKE),
                over=tuple(building.below()["krb_c"]))
 PARTS = [
     LIBRARY,
-    Part("c/library --core", 20, ("rt", COMPILER, CRYPTOGRAPHY, MAKE, SQLITE),
+    Part("c/library --core", 70, ("rt", COMPILER, CRYPTOGRAPHY, MAKE, SQLITE),
          LIBRARY.command, over=()),
     Part("c/signatures", 10, ("rt", COMPILER, MAKE), LIBRARY.command, over=()),
     Part("c/costs", 10, (COMPILER, MAKE, "valgrind"), LIBRARY.command, over=()),
