@@ -213,6 +213,11 @@ int step_row(struct statement *statement)
     return answer == SQLITE_DONE ? 0 : report_statement(statement);
 }
 
+int check_columns(const struct statement *statement)
+{
+    return sqlite3_errcode(sqlite3_db_handle(statement->at)) == SQLITE_NOMEM ? report_statement(statement) : 0;
+}
+
 int step_once(struct statement *statement)
 {
     int answer = step_row(statement);

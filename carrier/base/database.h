@@ -45,6 +45,8 @@ int step_once(struct statement *statement);
 
 /* Whether the statement gives a row; the caller ends them. -1 after a fault. */
 int step_row(struct statement *statement);
+/* 0, or -1 where there was no memory for a column of its row that was asked for. */
+int check_columns(const struct statement *statement);
 void end_rows(struct statement *statement);
 
 /* Rows that are inserted ROWS at a time, or as many as have ROW_BYTES, which is quicker than one by one. */

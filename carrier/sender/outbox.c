@@ -385,6 +385,8 @@ int outbox_next_text(struct statement *select, struct waiting_text *text)
     text->body = sqlite3_column_blob(select->at, 2);
     text->len = (size_t)sqlite3_column_bytes(select->at, 2);
     text->put = sqlite3_column_int64(select->at, 3);
+    if (check_columns(select) != 0)
+        return -1;
     if (text->body == NULL && sqlite3_column_type(select->at, 2) != SQLITE_NULL)
         text->body = (const uint8_t *)""; /* a text of no bytes isn't the close */
     return text->session != NULL ? 1 : -1;
@@ -515,8 +517,11 @@ int outbox_find_stop(struct outbox *o, const char *session, struct stop *stop)
     bind_text(select, 1, session);
     row = step_row(select);
     if (row == 1 && sqlite3_column_bytes(select->at, 0) <= RECEIPT) {
+        const void *receipt = sqlite3_column_blob(select->at, 0);
         stop->len = (size_t)sqlite3_column_bytes(select->at, 0);
-        memcpy(stop->receipt, sqlite3_column_blob(select->at, 0), stop->len);
+        if (receipt != NULL)
+            memcpy(stop->receipt, receipt, stop->len);
+        row = check_columns(select) == 0 ? row : -1;
         stop->since = (uint64_t)sqlite3_column_int64(select->at, 1);
     }
     end_rows(select);
@@ -604,13 +609,18 @@ static int add_frames(struct outbox *o, const char *session, uint64_t from, uint
 static int read_history(struct outbox *o, const char *session, uint64_t number, struct history *history)
 {
     struct statement *select = &o->statements[SELECT_HISTORY];
+    const void *bytes = NULL;
     int row;
     bind_text(select, 1, session);
     bind_number(select, 2, (sqlite3_int64)number);
     row = step_row(select);
-    history->is_known = row == 1 && sqlite3_column_bytes(select->at, 0) == (int)sizeof history->bytes;
+    if (row == 1) {
+        bytes = sqlite3_column_blob(select->at, 0);
+        row = check_columns(select) == 0 ? row : -1;
+    }
+    history->is_known = bytes != NULL && sqlite3_column_bytes(select->at, 0) == (int)sizeof history->bytes;
     if (history->is_known)
-        memcpy(history->bytes, sqlite3_column_blob(select->at, 0), sizeof history->bytes);
+        memcpy(history->bytes, bytes, sizeof history->bytes);
     end_rows(select);
     return row >= 0 ? 0 : -1;
 }

@@ -181,13 +181,13 @@ static const char *refusal(struct store *base)
     return why[0] != 0 ? why : NULL;
 }
 
-static int take_columns(sqlite3_stmt *row, store_row *take, void *given)
+static int take_columns(const struct statement *select, store_row *take, void *given)
 {
     const char *texts[STORE_COLUMNS];
-    int i, count = sqlite3_column_count(row);
+    int i, count = sqlite3_column_count(select->at);
     for (i = 0; i < count; i++)
-        texts[i] = (const char *)sqlite3_column_text(row, i);
-    return take(given, texts);
+        texts[i] = (const char *)sqlite3_column_text(select->at, i);
+    return check_columns(select) == 0 ? take(given, texts) : -1;
 }
 
 static int ask(struct store *base, const char *sql, const struct value *values, unsigned count,
@@ -198,7 +198,7 @@ static int ask(struct store *base, const char *sql, const struct value *values, 
     if (select == NULL)
         return -1;
     while (answer == 0 && (row = step_row(select)) != 0)
-        answer = row == 1 ? take_columns(select->at, take, given) : -1;
+        answer = row == 1 ? take_columns(select, take, given) : -1;
     end_rows(select);
     return answer == 0 ? 0 : -1;
 }

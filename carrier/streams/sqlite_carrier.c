@@ -166,6 +166,8 @@ static int copy_row(struct sqlite_carrier *c, const struct statement *select, st
     const void *frame = sqlite3_column_blob(select->at, 2);
     const char *session = (const char *)sqlite3_column_text(select->at, 1);
     it->len = (size_t)sqlite3_column_bytes(select->at, 2);
+    if (check_columns(select) != 0)
+        return -1;
     if (it->len > c->room - used) {
         uint8_t *more = used > 0 ? NULL : realloc(c->frames, it->len);
         if (more == NULL)
@@ -253,6 +255,10 @@ static int give_receipts(struct statement *select, sqlite3_int64 *turn, carrier_
     while ((row = step_row(select)) == 1) {
         const char *session = (const char *)sqlite3_column_text(select->at, 1);
         const void *receipt = sqlite3_column_blob(select->at, 2);
+        if (check_columns(select) != 0) {
+            row = -1;
+            break;
+        }
         *turn = sqlite3_column_int64(select->at, 0);
         if (session != NULL && receipt != NULL)
             take(given, session, receipt, (size_t)sqlite3_column_bytes(select->at, 2));

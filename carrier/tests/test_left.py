@@ -16,6 +16,7 @@ LINE = f"tom 0 18 priv {KEYS[0].hex()} 1 10.0.0.2 10.0.0.255 {KEYS[1].hex()}\n"
 TEXTS = 40
 STEP = 17               # one allocation in so many fails, in a run of its own
 MOST = 20_000           # allocations of a run
+LAST = 60               # of which so many come after all is opened: each of these fails once
 
 
 @pytest.fixture(scope="module")
@@ -84,6 +85,13 @@ def test_a_file_that_is_refused(watched, name, word, text):
     assert status not in (0, None) and dict(found) == {} and blocks > 0
 
 
+def is_refused(watched, name, word, number):
+    """Whether a run has so many allocations. It ends by itself where this one fails, and leaves no key."""
+    watched.status, _, found = watched.run(name, word, refuse=number)
+    assert watched.status >= 0 and dict(found) == {}, number
+    return watched.watch.has_refused()
+
+
 @pytest.mark.parametrize("name, word", [("sender", "--drain"), ("receiver", "--until-closed")])
 def test_an_allocation_fails(watched, name, word):
     """The session is closed, so that a program which goes on ends by itself."""
@@ -91,11 +99,9 @@ def test_an_allocation_fails(watched, name, word):
     watched.put(0)
     watched.run("sender", "--drain")
     watched.run("receiver", "--until-closed")
-    failed = 0
-    for number in range(1, MOST, STEP):
-        status, _, found = watched.run(name, word, refuse=number)
-        assert status >= 0 and dict(found) == {}, number
-        failed += status != 0
-        if not watched.watch.has_refused():
-            break
-    assert failed > 30 and not watched.watch.has_refused()
+    failed, number = 0, 1
+    while is_refused(watched, name, word, number) and number < MOST:
+        failed += watched.status != 0
+        number += STEP
+    assert failed > 30 and number < MOST
+    assert all(is_refused(watched, name, word, it) for it in range(number - STEP - LAST, number - STEP))
