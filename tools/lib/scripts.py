@@ -10,7 +10,7 @@ from lib.build import building
 
 
 OF_ROOMS = ("c/library", "c/dist", "c/signatures", "c/costs", "python/test", "rust/test", "go/test", "carrier/test",
-            "kerberos/test", "kerberos/interop", *(f"conformance/{it}" for it in ("test", "run", "mutate", "plant")))
+            "kerberos/test", "kerberos/interop", "conformance/test")
 
 
 def names():
