@@ -117,7 +117,7 @@ static void try_received(uint64_t beyond)
     struct krbrelay_row row = { .number = beyond + 5 };
     struct krbrelay_receiving it;
     struct krbrelay_seen seen = { .opened = 5, .has_opened = 1 };
-    uint32_t outcome = 99, low = (uint32_t)beyond;
+    uint32_t outcome = 99, low = (uint32_t)beyond, owed = low + 3;
     krbrelay_receiving_load(&it, &row, 0);
     is_so(krbrelay_receiving_take(&it, NULL, 0, &seen, &outcome) == KRBRELAY_OK
           && outcome == KRBRELAY_OUTCOME_REPEAT, "a demanded number beyond");
@@ -132,8 +132,8 @@ static void try_received(uint64_t beyond)
     seen.reserved = low;
     is_so(krbrelay_receiving_take(&it, NULL, 0, &seen, &outcome) == KRBRELAY_ARGUMENT, "what is in reserve beyond");
     seen.reserved = 0;
-    it.owed = low + 3;
-    is_so(krbrelay_receiving_take(&it, NULL, 0, &seen, &outcome) == (it.owed > 3 ? KRBRELAY_ARGUMENT : KRBRELAY_OK),
+    it.owed = owed;
+    is_so(krbrelay_receiving_take(&it, NULL, 0, &seen, &outcome) == (owed > 3 ? KRBRELAY_ARGUMENT : KRBRELAY_OK),
           "a receipt beyond");
     it.owed = 0;
     seen.accepted = low;
