@@ -556,6 +556,8 @@ def passwords(place):
     sender, _ = place.start("sender", **right), place.start("receiver", **given["receiver"])
     place.await_delivered({"ann": 1})
     place.nats.kill(0)
+    certify(place, "node", "-1")
+    place.nats.start(0)
     place.expect_logged(sender, "carrier_away", "nobody says that the carrier is away", seconds=20, detail="")
 
 
