@@ -235,7 +235,7 @@ fn receipts_alone_settle(rt: HostRuntime) {
             Step::Receipt(2, OWN, Asks::Missing, 6_100, Heard::Nothing),
             Step::Serves(256, 6_100, publish(2, 1)),
             Step::Confirmed(2, 10, 6_200, true),
-            // a receiver that asks again too soon isn't heeded, and its refusal is told
+            // a receiver that asks again too soon isn't heeded; the session stands for its refusal
             Step::Receipt(2, OWN, Asks::Refused, 6_300, Heard::Nothing),
             Step::Carried(3),
             Step::Stands(Some(Stands::Refused)),
