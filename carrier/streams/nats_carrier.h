@@ -44,7 +44,8 @@ struct nats_carrier {
     uint64_t incarnation, after, delivered;
     uint64_t known;                     /* it has been here: what is gone before it was told */
     uint64_t pending;                   /* frames after the last, when it was delivered */
-    uint64_t heard;                     /* when the consumer said something last, in milliseconds */
+    uint64_t heard;                     /* when the consumer said something last, in milliseconds, */
+    uint64_t came;                      /* and when a frame of it came last, or 0 */
     int has_others;                     /* the stream has other subjects than the shard's */
     natsSubscription *reader;
     natsMsg *held[NATS_HELD];
@@ -104,7 +105,7 @@ struct nats_place { uint64_t offset, turn, left; };
 int nats_read_place(natsMsg *message, struct nats_place *it);
 
 /* Waits for a message at most so long, by a clock that isn't set. */
-natsStatus nats_await(natsSubscription *from, natsMsg **message, int milliseconds);
+natsStatus nats_await(const struct nats_carrier *c, natsSubscription *from, natsMsg **message, int milliseconds);
 
 /* Asks about a stream, or has it made; the answer comes to that subject, and isn't waited for. How it is made. */
 void nats_ask(struct nats_carrier *c, const char *what, const char *stream, const char *reply, const char *text);

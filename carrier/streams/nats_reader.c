@@ -169,7 +169,7 @@ static natsStatus read_word(struct nats_carrier *c, natsMsg *message)
 static natsStatus fetch_one(struct nats_carrier *c, struct carried *it, int milliseconds_to_wait, int *has_frame)
 {
     natsMsg *message = NULL;
-    natsStatus status = nats_await(c->reader, &message, milliseconds_to_wait);
+    natsStatus status = nats_await(c, c->reader, &message, milliseconds_to_wait);
     *has_frame = 0;
     if (status != NATS_OK)
         return status == NATS_TIMEOUT && milliseconds() - c->heard > SILENT ? NATS_MISSED_HEARTBEAT : status;
@@ -180,11 +180,13 @@ static natsStatus fetch_one(struct nats_carrier *c, struct carried *it, int mill
         return status;
     }
     *has_frame = read_frame(c, message, it);
-    if (*has_frame)
-        c->held[c->held_count++] = message;
-    else
+    if (!*has_frame) {
         natsMsg_Destroy(message);
-    return *has_frame ? NATS_OK : NATS_MISMATCH;
+        return NATS_MISMATCH;
+    }
+    c->held[c->held_count++] = message;
+    c->came = c->heard;
+    return NATS_OK;
 }
 
 int nats_fetch(struct carrier *base, struct carried *list, size_t room, int milliseconds)

@@ -75,7 +75,7 @@ static natsStatus read_kept(struct nats_carrier *c, uint64_t messages, carrier_r
         status = natsSubscription_SetPendingLimits(reader, -1, -1); /* none is left out */
     while (status == NATS_OK && place.left > 0) {
         natsMsg *message = NULL;
-        status = nats_await(reader, &message, 2 * c->patience);
+        status = nats_await(c, reader, &message, 2 * c->patience);
         if (status == NATS_OK) {
             give(message, take, given);
             status = nats_read_place(message, &place) ? NATS_OK : NATS_MISMATCH;

@@ -16,7 +16,8 @@ enum {
     LONGEST = 3500,
     SOON = 50,      /* for a consumer until another one is tried, and twice what an answer takes; then twice as long */
     TRIES = 4,
-    LOOKS = 8       /* between two looks at most */
+    LOOKS = 8,      /* between two looks at most, */
+    LIVELY = 1000   /* and 1 where a frame came in so many before: each further one is seen soon */
 };
 
 /* ---- What an answer says */
@@ -179,14 +180,14 @@ void nats_write_stream(const struct nats_carrier *c, unsigned stream, char text[
 
 /* ---- Questions that are waited for */
 
-natsStatus nats_await(natsSubscription *from, natsMsg **message, int wait)
+natsStatus nats_await(const struct nats_carrier *c, natsSubscription *from, natsMsg **message, int wait)
 {
-    uint64_t end = milliseconds() + (uint64_t)wait;
-    unsigned pause = 1;
+    uint64_t began = milliseconds(), end = began + (uint64_t)wait;
+    unsigned pause = 1, longest = began < c->came + LIVELY ? 1 : LOOKS;
     natsStatus status = natsSubscription_NextMsg(message, from, 0);
     while (status == NATS_TIMEOUT && milliseconds() < end) {
         pause_milliseconds(pause);
-        pause = pause < LOOKS ? 2 * pause : LOOKS;
+        pause = pause < longest ? 2 * pause : longest;
         status = natsSubscription_NextMsg(message, from, 0);
     }
     return status;
@@ -215,7 +216,7 @@ static natsStatus await_answer(struct nats_carrier *c, unsigned long first, int 
         natsMsg_Destroy(*answer);
         *answer = NULL;
         now = milliseconds();
-        status = nats_await(c->replies, answer, now < end ? (int)(end - now) : 0);
+        status = nats_await(c, c->replies, answer, now < end ? (int)(end - now) : 0);
         if (status == NATS_OK)
             *number = strtoul(strrchr(natsMsg_GetSubject(*answer), '.') + 1, NULL, 10);
     }
