@@ -17,26 +17,31 @@
 #define REFUSED_BY(name) REFUSED(#name),
 #define UNOPENED(name) REFUSED("OPENING_" #name),
 
-/* In the order of the values in shard_show; those of refusals are the last. */
+/* A number's name, its type, what it is, and its value. */
+#define OF_SHARD(X) \
+    X("texts_total", "counter", "Texts that took effect", c->texts) \
+    X("text_bytes_total", "counter", "Bytes of all texts", c->bytes) \
+    X("texts_put_aside_total", "counter", "Texts that are in the table aside, with their reason", c->aside) \
+    X("accepted_frames_total", "counter", "Frames that were accepted", c->accepted) \
+    X("opened_sessions_total", "counter", "Sessions that began by a ticket", c->opened) \
+    X("receipts_total", "counter", "Receipts that were published", c->receipts) \
+    X("repeated_frames_total", "counter", "Frames that had been accepted before", c->repeats) \
+    X("early_frames_total", "counter", "Frames that came before one that is missing", c->early) \
+    X("transactions_total", "counter", "Transactions that were committed", c->commits) \
+    X("fenced_transactions_total", "counter", "Transactions that another receiver preceded", c->fenced) \
+    X("opening_seconds_total", "counter", "Time for opening frames", (double)c->opening / 1e9) \
+    X("carrier_seconds_total", "counter", "Time for fetching frames", (double)c->fetching / 1e9) \
+    X("store_seconds_total", "counter", "Time for effects and transactions", (double)c->storing / 1e9) \
+    X("offset", "gauge", "How far the shard was read", s->reading.read.offset) \
+    X("lag_frames", "gauge", "Frames that the carrier has after it", is_known ? (double)behind : NAN) \
+    X("loaded_sessions", "gauge", "Sessions of which frames came", s->count) \
+    X("standing_sessions", "gauge", "Sessions that miss a frame, or had one refused", s->standing.count)
+#define METRIC(name, type, help, value) { NAME name, type, help, NULL },
+#define VALUE(name, type, help, value) (double)(value),
+
+/* Those of refusals are the last. */
 const struct metric shard_metrics[] = {
-    { NAME "texts_total", "counter", "Texts that took effect", NULL },
-    { NAME "text_bytes_total", "counter", "Bytes of all texts", NULL },
-    { NAME "texts_put_aside_total", "counter", "Texts that are in the table aside, with their reason", NULL },
-    { NAME "accepted_frames_total", "counter", "Frames that were accepted", NULL },
-    { NAME "opened_sessions_total", "counter", "Sessions that began by a ticket", NULL },
-    { NAME "receipts_total", "counter", "Receipts that were published", NULL },
-    { NAME "repeated_frames_total", "counter", "Frames that had been accepted before", NULL },
-    { NAME "early_frames_total", "counter", "Frames that came before one that is missing", NULL },
-    { NAME "transactions_total", "counter", "Transactions that were committed", NULL },
-    { NAME "fenced_transactions_total", "counter", "Transactions that another receiver preceded",
-      NULL },
-    { NAME "opening_seconds_total", "counter", "Time for opening frames", NULL },
-    { NAME "carrier_seconds_total", "counter", "Time for fetching frames", NULL },
-    { NAME "store_seconds_total", "counter", "Time for effects and transactions", NULL },
-    { NAME "offset", "gauge", "How far the shard was read", NULL },
-    { NAME "lag_frames", "gauge", "Frames that the carrier has after it", NULL },
-    { NAME "loaded_sessions", "gauge", "Sessions of which frames came", NULL },
-    { NAME "standing_sessions", "gauge", "Sessions that miss a frame, or had one refused", NULL },
+    OF_SHARD(METRIC)
     REFUSED("NO_LINE"), REFUSAL_NAMES(REFUSED_BY) REFUSED("OTHER"), OPENING_REASONS(UNOPENED)
 };
 const unsigned shard_metrics_count = sizeof shard_metrics / sizeof *shard_metrics;
@@ -109,15 +114,7 @@ void shard_show(struct shard *s, unsigned part)
     uint64_t behind = 0;
     unsigned i;
     int is_known = s->is_loaded && s->carrier->behind(s->carrier, &behind) == 0;
-    double values[sizeof shard_metrics / sizeof *shard_metrics] = {
-        (double)c->texts, (double)c->bytes, (double)c->aside, (double)c->accepted, (double)c->opened,
-        (double)c->receipts,
-        (double)c->repeats,
-        (double)c->early, (double)c->commits, (double)c->fenced,
-        (double)c->opening / 1e9, (double)c->fetching / 1e9,
-        (double)c->storing / 1e9, (double)s->reading.read.offset, is_known ? (double)behind : NAN,
-        (double)s->count, (double)s->standing.count,
-    };
+    double values[sizeof shard_metrics / sizeof *shard_metrics] = { OF_SHARD(VALUE) };
     for (i = 0; i < REFUSALS; i++)
         values[shard_metrics_count - REFUSALS + i] = (double)c->refused[i];
     write_whole(labels, sizeof labels, "shard=\"%u\"", s->number);

@@ -16,26 +16,33 @@
 #define DELAYS_UP_TO(bound) \
     { NAME "delay_seconds_bucket", "histogram", DELAYS_HELP, "le=\"" #bound "\"" },
 
-/* In the order of the values in sender_show: those of delays, and the last, which is the shards',
- * are filled in. */
+/* A number's name, its type, what it is, and its value: of the sender, and of each shard. */
+#define OF_SENDER(X) \
+    X("sealed_frames_total", "counter", "Frames that were sealed", s->sealing.frames) \
+    X("published_frames_total", "counter", "Frames that were published", s->published) \
+    X("republished_frames_total", "counter", "Frames among them that were once more", s->again) \
+    X("sealing_seconds_total", "counter", "Time for sealing", (double)s->sealing.nanoseconds / 1e9) \
+    X("outbox_seconds_total", "counter", "Time for the outbox", (double)s->storing / 1e9) \
+    X("carrier_seconds_total", "counter", "Time for the carrier, with waits for its confirmations", \
+      (double)s->carrying / 1e9) \
+    X("waiting_texts", "gauge", "Texts that wait for being sealed or for a receipt, as --max-waiting counts them", \
+      counted(s, outbox_count_texts)) \
+    X("waiting_texts_limit", "gauge", "Texts that may wait, as --max-waiting says; 0: any number", \
+      s->options.most_waiting) \
+    X("oldest_text_seconds", "gauge", "Since the oldest text was put in that waits for being sealed, and whose session" \
+      " isn't stopped, if that is known", age_of_oldest(s)) \
+    X("receipts_total", "counter", "Receipts that covered more than those before", s->receipts) \
+    X("frames_without_receipt", "gauge", "Frames that are carried and wait for a receipt", s->unreceipted) \
+    X("held_sessions", "gauge", "Sessions that wait for a ticket, or for the one before", s->held) \
+    X("standing_sessions", "gauge", "Sessions that stand: nobody confirms, answers or takes their frames", s->standing) \
+    X("stopped_sessions", "gauge", "Sessions that are stopped", counted(s, outbox_count_stopped)) \
+    X("silent_seconds", "gauge", "Since a frame was carried, if any waits for the carrier's answer or the carrier is away", \
+      silent)
+#define METRIC(name, type, help, value) { NAME name, type, help, NULL },
+#define VALUE(name, type, help, value) (double)(value),
+
 static const struct metric metrics[] = {
-    { NAME "sealed_frames_total", "counter", "Frames that were sealed", NULL },
-    { NAME "published_frames_total", "counter", "Frames that were published", NULL },
-    { NAME "republished_frames_total", "counter", "Frames among them that were once more", NULL },
-    { NAME "sealing_seconds_total", "counter", "Time for sealing", NULL },
-    { NAME "outbox_seconds_total", "counter", "Time for the outbox", NULL },
-    { NAME "carrier_seconds_total", "counter", "Time for the carrier, with waits for its confirmations", NULL },
-    { NAME "waiting_texts", "gauge", "Texts that wait for being sealed or for a receipt, as --max-waiting counts them", NULL },
-    { NAME "waiting_texts_limit", "gauge", "Texts that may wait, as --max-waiting says; 0: any number", NULL },
-    { NAME "oldest_text_seconds", "gauge", "Since the oldest text was put in that waits for being sealed, and whose session"
-      " isn't stopped, if that is known", NULL },
-    { NAME "receipts_total", "counter", "Receipts that covered more than those before", NULL },
-    { NAME "frames_without_receipt", "gauge", "Frames that are carried and wait for a receipt", NULL },
-    { NAME "held_sessions", "gauge", "Sessions that wait for a ticket, or for the one before", NULL },
-    { NAME "standing_sessions", "gauge", "Sessions that stand: nobody confirms, answers or takes their frames", NULL },
-    { NAME "stopped_sessions", "gauge", "Sessions that are stopped", NULL },
-    { NAME "silent_seconds", "gauge", "Since a frame was carried, if any waits for the carrier's answer or the carrier is away",
-      NULL },
+    OF_SENDER(METRIC)
     DELAY_BOUNDS(DELAYS_UP_TO)
     { NAME "delay_seconds_bucket", "histogram", DELAYS_HELP, "le=\"+Inf\"" },
     { NAME "delay_seconds_sum", NULL, NULL, NULL },
@@ -98,13 +105,7 @@ static void show_delays(const struct delays *delays, double *values)
 void sender_show(struct sender *s)
 {
     double silent = (double)(nanoseconds() - s->rose) / 1e9;
-    double values[METRICS] = {
-        (double)s->sealing.frames, (double)s->published, (double)s->again,
-        (double)s->sealing.nanoseconds / 1e9, (double)s->storing / 1e9, (double)s->carrying / 1e9,
-        counted(s, outbox_count_texts), (double)s->options.most_waiting, age_of_oldest(s), (double)s->receipts,
-        (double)s->unreceipted, (double)s->held, (double)s->standing,
-        counted(s, outbox_count_stopped), silent,
-    };
+    double values[METRICS] = { OF_SENDER(VALUE) };
     unsigned i;
     show_delays(&s->outbox.delays, values + DELAYS_AT);
     values[METRICS - 1] = NAN;

@@ -131,7 +131,7 @@ def metrics():
     for source in ("sender_report.c", "shard_report.c"):
         text = text_of(source)
         begin = re.search(r'^#define NAME "(\w+)"', text, re.M)[1]
-        found |= {begin + it for it in [*re.findall(r'\{ NAME "(\w+)"', text), "build_info"]}
+        found |= {begin + it for it in [*re.findall(r'(?:\{ NAME |X\()"(\w+)"', text), "build_info"]}
     return found
 
 
