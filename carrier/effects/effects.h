@@ -16,15 +16,6 @@
 
 #include "effect.h"
 
-#define EFFECTS_USAGE \
-    "  --effect sql:STATEMENT  has each text run this statement of the store, in place of being a row of\n" \
-    "                   `effect`: :session, :client, :stream, :number, :part and :text are the text's\n" \
-    "  --effect object:FILE  has each text be given to `take_effect` of a shared object (effect.h)\n" \
-    "  --effect command:WORDS  has each text be a line of JSON for this command, which answers a line:\n" \
-    "                   `ok`, `refuse REASON` or `again`\n" \
-    "  --put-aside N    a text that was refused N times is put into the table `aside`, with the reason (0:\n" \
-    "                   it is tried again for ever)\n"
-
 /* Ends the program with status 2 and a message unless the word is of that form, or NULL. */
 void effects_check_option(const char *program, const char *word);
 

@@ -7,12 +7,12 @@
 #include "effects.h"
 #include "ending.h"
 #include "log.h"
+#include "options.h"
 #include "service.h"
 #include "serving.h"
 #include "sharing.h"
 #include "words.h"
 
-#include <getopt.h>
 #include <limits.h>
 #include <math.h>
 #include <stdio.h>
@@ -21,28 +21,6 @@
 #include <sys/stat.h>
 
 enum { SECOND = 1000 }; /* milliseconds */
-
-static const char usage[] =
-    "receiver [--sessions FILE] --store WHERE --carrier WHERE --shards LIST|auto [OPTION..]\n"
-    "  --sessions FILE  a line for each session: NAME SHARD ETYPE MODE KEY FIRST FROM TO [BACK]\n"
-    "  --store WHERE    sqlite:FILE, in whose name '%' is the shard, or\n"
-    "                   postgresql://USER@HOST/DATABASE\n"
-    CARRIER_USAGE
-    "  --shards LIST    the shards to be served, such as 0-3,7\n"
-    "  --shards auto    those of the sessions, which all receivers of the store that say so share\n"
-    "  --replicas N     a stream with fewer isn't read; so many has that of receipts, if it is made\n"
-    "                   (1)\n"
-    "  --batch N        so many frames go into a transaction at most (1024)\n"
-    "  --skew SECONDS   by so much a frame's time may be off (86400): more than the time for\n"
-    "                   which the carrier keeps frames, or their session stands still\n"
-    "  --metrics ADDRESS:PORT  answers GET /metrics (Prometheus's text) and GET /healthz\n"
-    EFFECTS_USAGE
-    "  --until-closed   ends once all sessions are closed\n"
-    KERBEROS_USAGE
-    "  --allow FILE     the clients that may begin sessions: a principal each line\n"
-    "  --help, --version\n"
-    "It ends by SIGTERM. Status: 0; 1 after a fault at the start, or once the carrier's connection has\n"
-    "ended for good, as after refused credentials; 2 for a wrong option.\n";
 
 struct options {
     struct shard_options shard;
@@ -310,20 +288,9 @@ static int work(void)
 
 /* ---- Options */
 
-static const struct option words_of_options[] = {
-    CARRIER_WORDS, KERBEROS_WORDS,
-    { "allow", required_argument, NULL, KERBEROS_ALLOW },
-    { "sessions", required_argument, NULL, 's' }, { "store", required_argument, NULL, 'S' },
-    { "shards", required_argument, NULL, 'n' },   { "batch", required_argument, NULL, 'b' },
-    { "skew", required_argument, NULL, 'k' },     { "metrics", required_argument, NULL, 'm' },
-    { "until-closed", no_argument, NULL, 'u' },
-    { "effect", required_argument, NULL, 'e' },   { "put-aside", required_argument, NULL, 'a' },
-    { "help", no_argument, NULL, 'h' },           { "version", no_argument, NULL, 'v' },
-    { NULL, 0, NULL, 0 }
-};
-
-static void read_shards(struct options *o, const char *text)
+static void read_shards(void *given, const char *text)
 {
+    struct options *o = given;
     int is_auto = strcmp(text, "auto") == 0;
     o->shard_count = is_auto ? 0 : read_ranges(text, CARRIER_SHARDS, o->is_served);
     o->has_shards = is_auto || o->shard_count > 0;
@@ -333,45 +300,59 @@ static void read_shards(struct options *o, const char *text)
              CARRIER_SHARDS);
 }
 
-static int read_option(struct options *o, int letter)
-{
-    switch (letter) {
-    case 's': o->sessions = *optarg != 0 ? optarg : NULL; break; /* units may have no file */
-    case 'S': o->shard.store = optarg; break;
-    case 'n': read_shards(o, optarg); break;
-    case 'b': o->shard.batch = option_number("receiver", "batch", optarg, 1, MOST_FRAMES); break;
-    case 'k': o->shard.skew = option_number("receiver", "skew", optarg, 0, UINT32_MAX); break;
-    case 'm': o->metrics = optarg; break;
-    case 'u': o->shard.until_closed = 1; break;
-    case 'e': o->effect = optarg; break;
-    case 'a': o->refusals = option_number("receiver", "put-aside", optarg, 0, UINT32_MAX); break;
-    case 'h': end_with(0, "%s", usage);
-    case 'v': end_with_version("receiver");
-    default:
-        return carrier_option("receiver", &o->shard.carrier, letter, optarg)
-               || kerberos_option("receiver", &o->shard.kerberos, letter, optarg);
-    }
-    return 1;
-}
+static const struct option_row rows[] = {
+    { .word = "sessions", .value = "FILE", .kind = OPTION_FILE, .at = offsetof(struct options, sessions),
+      .help = "a line for each session: NAME SHARD ETYPE MODE KEY FIRST FROM TO [BACK]" },
+    { .word = "store", .value = "WHERE", .at = offsetof(struct options, shard.store),
+      .help = "sqlite:FILE, in whose name '%' is the shard, or\npostgresql://USER@HOST/DATABASE" },
+    CARRIER_ROWS(struct options, shard.carrier),
+    { .word = "shards", .value = "LIST", .kind = OPTION_TAKEN, .take = read_shards,
+      .help = "the shards to be served, such as 0-3,7; auto: those of the sessions, which\n"
+              "all receivers of the store that say so share" },
+    { .word = "replicas", .value = "N", .kind = OPTION_NUMBER, .at = offsetof(struct options, shard.carrier.replicas),
+      .low = 1, .high = CARRIER_MOST_REPLICAS,
+      .help = "a stream with fewer isn't read; so many has that of receipts, if it is made\n(1)" },
+    { .word = "batch", .value = "N", .kind = OPTION_NUMBER, .at = offsetof(struct options, shard.batch), .low = 1,
+      .high = MOST_FRAMES, .help = "so many frames go into a transaction at most (1024)" },
+    { .word = "skew", .value = "SECONDS", .kind = OPTION_NUMBER, .at = offsetof(struct options, shard.skew),
+      .high = UINT32_MAX,
+      .help = "by so much a frame's time may be off (86400): more than the time for\n"
+              "which the carrier keeps frames, or their session stands still" },
+    { .word = "metrics", .value = "ADDRESS:PORT", .at = offsetof(struct options, metrics),
+      .help = "answers GET /metrics (Prometheus's text) and GET /healthz" },
+    { .word = "effect", .value = "EFFECT", .at = offsetof(struct options, effect),
+      .help = "sql:STATEMENT: each text runs this statement of the store, in place of being a\n"
+              "row of `effect`: :session, :client, :stream, :number, :part and :text are the\n"
+              "text's; object:FILE: each text is given to `take_effect` of a shared object\n"
+              "(effect.h); command:WORDS: each text is a line of JSON for this command, which\n"
+              "answers a line: `ok`, `refuse REASON` or `again`" },
+    { .word = "put-aside", .value = "N", .kind = OPTION_NUMBER, .at = offsetof(struct options, refusals),
+      .high = UINT32_MAX,
+      .help = "a text that was refused N times is put into the table `aside`, with the\n"
+              "reason (0: it is tried again for ever)" },
+    { .word = "until-closed", .kind = OPTION_FLAG, .at = offsetof(struct options, shard.until_closed),
+      .help = "ends once all sessions are closed" },
+    KERBEROS_ROWS(struct options, shard.kerberos),
+    { .word = "allow", .value = "FILE", .at = offsetof(struct options, shard.kerberos.allowed),
+      .help = "the clients that may begin sessions: a principal each line" },
+};
 
-static int read_options(struct options *o, int count, char **words)
-{
-    int letter;
-    while ((letter = getopt_long(count, words, "", words_of_options, NULL)) != -1)
-        if (!read_option(o, letter))
-            return 0;
-    return optind == count && (o->sessions || o->shard.kerberos.keytab) && o->shard.store
-           && o->shard.carrier.where
-           && o->has_shards;
-}
+static const struct usage usage = {
+    "receiver", "receiver [--sessions FILE] --store WHERE --carrier WHERE --shards LIST|auto [OPTION..]\n",
+    "It ends by SIGTERM. Status: 0; 1 after a fault at the start, or once the carrier's connection has\n"
+    "ended for good, as after refused credentials; 2 for a wrong option.\n",
+    rows, sizeof rows / sizeof *rows
+};
 
 int main(int count, char **words)
 {
     int status;
     options.shard = (struct shard_options){ .carrier = { .replicas = 1 }, .batch = 1024,
                                             .kerberos = { .shards = 1 }, .skew = 86400 };
-    if (!read_options(&options, count, words))
-        end_with(2, "%s", usage);
+    options_read(&usage, count, words, &options);
+    if ((options.sessions == NULL && options.shard.kerberos.keytab == NULL) || options.shard.store == NULL
+        || options.shard.carrier.where == NULL || !options.has_shards)
+        options_refuse(&usage);
     carrier_check_options("receiver", &options.shard.carrier);
     store_check_option("receiver", options.shard.store);
     effects_check_option("receiver", options.effect);

@@ -21,7 +21,7 @@
 struct options {
     struct carrier_options carrier;
     struct kerberos_options kerberos;
-    uint64_t life; /* seconds after which a stream's next text begins another session */
+    uint32_t life; /* seconds after which a stream's next text begins another session */
     const char *sessions, *outbox, *metrics;
     unsigned batch, most_waiting;
     int drain;

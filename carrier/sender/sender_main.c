@@ -7,36 +7,49 @@
 #include "clock.h"
 #include "ending.h"
 #include "log.h"
+#include "options.h"
 #include "service.h"
 #include "waiting.h"
-#include "words.h"
 
-#include <getopt.h>
 #include <stdio.h>
 #include <string.h>
 #include <sys/stat.h>
 
-static const char usage[] =
-    "sender [--sessions FILE] --outbox FILE --carrier WHERE [OPTION..]\n"
-    "  --sessions FILE  a line for each session: NAME SHARD ETYPE MODE KEY FIRST FROM TO [BACK]\n"
-    "  --outbox FILE    SQLite's, in whose table `text` an application puts texts\n"
-    CARRIER_USAGE
-    "  --replicas N     so many replicas has a stream that is made; one with fewer isn't used (1)\n"
-    "  --batch N        so many texts go into a frame at most (1)\n"
-    "  --max-waiting N  while so many texts wait, for being sealed or for a receipt, the outbox refuses\n"
-    "                   another one with the error `the outbox is full` (0: any number may wait)\n"
-    "  --metrics ADDRESS:PORT  answers GET /metrics (Prometheus's text) and GET /healthz\n"
-    "  --drain          ends once all is carried that can be\n"
-    KERBEROS_USAGE
-    "  --client NAME    the principal of this program: a name of a text that no line has is a\n"
-    "                   stream of it\n"
-    "  --etype N        of the keys of sessions: 17 or 18 (18)\n"
-    "  --life SECONDS   after so long a stream's next text begins a session with a new key\n"
-    "                   (86400); SIGHUP has all streams begin one\n"
-    "  --help, --version\n"
+static const struct option_row rows[] = {
+    { .word = "sessions", .value = "FILE", .kind = OPTION_FILE, .at = offsetof(struct options, sessions),
+      .help = "a line for each session: NAME SHARD ETYPE MODE KEY FIRST FROM TO [BACK]" },
+    { .word = "outbox", .value = "FILE", .at = offsetof(struct options, outbox),
+      .help = "SQLite's, in whose table `text` an application puts texts" },
+    CARRIER_ROWS(struct options, carrier),
+    { .word = "replicas", .value = "N", .kind = OPTION_NUMBER, .at = offsetof(struct options, carrier.replicas), .low = 1,
+      .high = CARRIER_MOST_REPLICAS, .help = "so many replicas has a stream that is made; one with fewer isn't used (1)" },
+    { .word = "batch", .value = "N", .kind = OPTION_NUMBER, .at = offsetof(struct options, batch), .low = 1,
+      .high = BATCH_TEXTS, .help = "so many texts go into a frame at most (1)" },
+    { .word = "max-waiting", .value = "N", .kind = OPTION_NUMBER, .at = offsetof(struct options, most_waiting),
+      .high = INT32_MAX,
+      .help = "while so many texts wait, for being sealed or for a receipt, the outbox refuses\n"
+              "another one with the error `the outbox is full` (0: any number may wait)" },
+    { .word = "metrics", .value = "ADDRESS:PORT", .at = offsetof(struct options, metrics),
+      .help = "answers GET /metrics (Prometheus's text) and GET /healthz" },
+    { .word = "drain", .kind = OPTION_FLAG, .at = offsetof(struct options, drain),
+      .help = "ends once all is carried that can be" },
+    KERBEROS_ROWS(struct options, kerberos),
+    { .word = "client", .value = "NAME", .at = offsetof(struct options, kerberos.client),
+      .help = "the principal of this program: a name of a text that no line has is a\nstream of it" },
+    { .word = "etype", .value = "N", .kind = OPTION_NUMBER, .at = offsetof(struct options, kerberos.etype), .low = 17,
+      .high = 18, .help = "of the keys of sessions: 17 or 18 (18)" },
+    { .word = "life", .value = "SECONDS", .kind = OPTION_NUMBER, .at = offsetof(struct options, life), .low = 1,
+      .high = UINT32_MAX, .help = "after so long a stream's next text begins a session with a new key\n"
+                                  "(86400); SIGHUP has all streams begin one" },
+};
+
+static const struct usage usage = {
+    "sender", "sender [--sessions FILE] --outbox FILE --carrier WHERE [OPTION..]\n",
     "It ends by SIGTERM. Status: 0; 1 after a fault; 2 for a wrong option; 3 if another sender\n"
     "has taken the outbox over; 4 after --drain if a session is stopped, as the outbox's table\n"
-    "`stopped` says, or if there is no ticket.\n";
+    "`stopped` says, or if there is no ticket.\n",
+    rows, sizeof rows / sizeof *rows
+};
 
 static enum outbox_answer serve(struct sender *s)
 {
@@ -80,49 +93,6 @@ static int work(struct sender *s)
     return s->options.drain && !is_ending() && stopped + held > 0 ? 4 : 0;
 }
 
-/* ---- Options */
-
-static const struct option words_of_options[] = {
-    CARRIER_WORDS, KERBEROS_WORDS,
-    { "client", required_argument, NULL, KERBEROS_CLIENT },
-    { "etype", required_argument, NULL, KERBEROS_ETYPE },
-    { "life", required_argument, NULL, 'l' },
-    { "sessions", required_argument, NULL, 's' }, { "outbox", required_argument, NULL, 'o' },
-    { "batch", required_argument, NULL, 'b' },
-    { "metrics", required_argument, NULL, 'm' },  { "drain", no_argument, NULL, 'd' },
-    { "max-waiting", required_argument, NULL, 'w' },
-    { "help", no_argument, NULL, 'h' },           { "version", no_argument, NULL, 'v' },
-    { NULL, 0, NULL, 0 }
-};
-
-static int read_option(struct options *o, int letter)
-{
-    switch (letter) {
-    case 's': o->sessions = *optarg != 0 ? optarg : NULL; break; /* units may have no file */
-    case 'o': o->outbox = optarg; break;
-    case 'b': o->batch = option_number("sender", "batch", optarg, 1, BATCH_TEXTS); break;
-    case 'm': o->metrics = optarg; break;
-    case 'w': o->most_waiting = option_number("sender", "max-waiting", optarg, 0, INT32_MAX); break;
-    case 'd': o->drain = 1; break;
-    case 'h': end_with(0, "%s", usage);
-    case 'v': end_with_version("sender");
-    case 'l': o->life = option_number("sender", "life", optarg, 1, UINT32_MAX); break;
-    default:
-        return carrier_option("sender", &o->carrier, letter, optarg)
-               || kerberos_option("sender", &o->kerberos, letter, optarg);
-    }
-    return 1;
-}
-
-static int read_options(struct options *o, int count, char **words)
-{
-    int letter;
-    while ((letter = getopt_long(count, words, "", words_of_options, NULL)) != -1)
-        if (!read_option(o, letter))
-            return 0;
-    return optind == count && (o->sessions || o->kerberos.keytab) && o->outbox && o->carrier.where;
-}
-
 int main(int count, char **words)
 {
     static struct sender sender;
@@ -130,8 +100,10 @@ int main(int count, char **words)
     sender.options.kerberos.etype = 18;
     sender.options.kerberos.shards = 1;
     sender.options.life = 86400;
-    if (!read_options(&sender.options, count, words))
-        end_with(2, "%s", usage);
+    options_read(&usage, count, words, &sender.options);
+    if ((sender.options.sessions == NULL && sender.options.kerberos.keytab == NULL) || sender.options.outbox == NULL
+        || sender.options.carrier.where == NULL)
+        options_refuse(&usage);
     carrier_check_options("sender", &sender.options.carrier);
     service_check_option("sender", sender.options.metrics);
     kerberos_check_options("sender", &sender.options.kerberos, "--client",

@@ -5,25 +5,6 @@
 #include <stdio.h>
 #include <string.h>
 
-enum { MOST_REPLICAS = 5 };
-
-int carrier_option(const char *program, struct carrier_options *o, int letter, const char *word)
-{
-    switch (letter) {
-    case CARRIER_WHERE: o->where = word; break;
-    case CARRIER_REPLICAS:
-        o->replicas = option_number(program, "replicas", word, 1, MOST_REPLICAS);
-        break;
-    case CARRIER_CREDENTIALS: o->credentials = word; break;
-    case CARRIER_TLS_CA: o->tls_ca = word; break;
-    case CARRIER_TLS_NAME: o->tls_name = word; break;
-    case CARRIER_TLS_CERT: o->tls_cert = word; break;
-    case CARRIER_TLS_KEY: o->tls_key = word; break;
-    default: return 0;
-    }
-    return 1;
-}
-
 static int is_sqlite(const char *where)
 {
     return strncmp(where, "sqlite:", 7) == 0;

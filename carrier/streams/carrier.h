@@ -55,30 +55,21 @@ struct carrier_options {
     const char *tls_ca, *tls_cert, *tls_key, *tls_name; /* files, and a name; or NULL */
 };
 
-/* The words of a command line for these, what they mean, and their letters for getopt_long. */
-#define CARRIER_USAGE \
-    "  --carrier WHERE  sqlite:FILE, or nats://HOST:PORT[,..], or tls://HOST:PORT[,..]\n" \
-    "  --credentials FILE  who this is to NATS: a line USER PASSWORD, or NATS's own credentials;\n" \
-    "                   only its owner may read it\n" \
-    "  --tls-ca FILE    the certificates of who may sign servers': TLS is used (tls:// alone\n" \
-    "                   takes those of the system)\n" \
-    "  --tls-name NAME  this name has to be in each server's certificate (any)\n" \
-    "  --tls-cert FILE, --tls-key FILE  the certificate of this program, and its key\n"
-enum { CARRIER_WHERE = 256, CARRIER_REPLICAS, CARRIER_CREDENTIALS, CARRIER_TLS_CA, CARRIER_TLS_NAME,
-       CARRIER_TLS_CERT, CARRIER_TLS_KEY };
-#define CARRIER_WORDS \
-    { "carrier", required_argument, NULL, CARRIER_WHERE }, \
-    { "replicas", required_argument, NULL, CARRIER_REPLICAS }, \
-    { "credentials", required_argument, NULL, CARRIER_CREDENTIALS }, \
-    { "tls-ca", required_argument, NULL, CARRIER_TLS_CA }, \
-    { "tls-name", required_argument, NULL, CARRIER_TLS_NAME }, \
-    { "tls-cert", required_argument, NULL, CARRIER_TLS_CERT }, \
-    { "tls-key", required_argument, NULL, CARRIER_TLS_KEY }
+enum { CARRIER_MOST_REPLICAS = 5 };
 
-/* Takes one of these options: 1, or 0 if the letter is none of theirs. A wrong number ends the
- * program with status 2. */
-int carrier_option(const char *program, struct carrier_options *options, int letter,
-                   const char *word);
+/* The options of a command line for these (options.h), which stand in this member of a program's struct. */
+#define CARRIER_ROWS(type, member) \
+    { .word = "carrier", .value = "WHERE", .at = offsetof(type, member.where), \
+      .help = "sqlite:FILE, or nats://HOST:PORT[,..], or tls://HOST:PORT[,..]" }, \
+    { .word = "credentials", .value = "FILE", .at = offsetof(type, member.credentials), \
+      .help = "who this is to NATS: a line USER PASSWORD, or NATS's own credentials;\nonly its owner may read it" }, \
+    { .word = "tls-ca", .value = "FILE", .at = offsetof(type, member.tls_ca), \
+      .help = "the certificates of who may sign servers': TLS is used (tls:// alone\ntakes those of the system)" }, \
+    { .word = "tls-name", .value = "NAME", .at = offsetof(type, member.tls_name), \
+      .help = "this name has to be in each server's certificate (any)" }, \
+    { .word = "tls-cert", .value = "FILE", .at = offsetof(type, member.tls_cert), \
+      .help = "the certificate of this program" }, \
+    { .word = "tls-key", .value = "FILE", .at = offsetof(type, member.tls_key), .help = "its key" }
 
 /* Ends the program with status 2 and a message unless the options that were taken go together. */
 void carrier_check_options(const char *program, const struct carrier_options *options);

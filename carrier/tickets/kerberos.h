@@ -20,22 +20,14 @@ struct kerberos_options {
     unsigned shards;     /* these sessions are in the shards below this one */
 };
 
-/* The words of a command line for these, what they mean, and their letters for getopt_long. */
-#define KERBEROS_USAGE \
-    "  --keytab FILE    sessions begin by tickets: the keys of this program's principal\n" \
-    "  --service NAME   the principal of all receivers of the store\n" \
-    "  --ticket-shards N  sessions by tickets are in the shards below N (1): the same at both ends\n"
-enum { KERBEROS_KEYTAB = 288, KERBEROS_SERVICE, KERBEROS_SHARDS, KERBEROS_CLIENT, KERBEROS_ETYPE,
-       KERBEROS_ALLOW };
-#define KERBEROS_WORDS \
-    { "keytab", required_argument, NULL, KERBEROS_KEYTAB }, \
-    { "service", required_argument, NULL, KERBEROS_SERVICE }, \
-    { "ticket-shards", required_argument, NULL, KERBEROS_SHARDS }
-
-/* Takes one of these options: 1, or 0 if the letter is none of theirs. A wrong number ends the
- * program with status 2. */
-int kerberos_option(const char *program, struct kerberos_options *options, int letter,
-                    const char *word);
+/* The options of a command line for these at both ends (options.h), which stand in this member of a program's struct. */
+#define KERBEROS_ROWS(type, member) \
+    { .word = "keytab", .value = "FILE", .at = offsetof(type, member.keytab), \
+      .help = "sessions begin by tickets: the keys of this program's principal" }, \
+    { .word = "service", .value = "NAME", .at = offsetof(type, member.service), \
+      .help = "the principal of all receivers of the store" }, \
+    { .word = "ticket-shards", .value = "N", .kind = OPTION_NUMBER, .at = offsetof(type, member.shards), .low = 1, \
+      .high = CARRIER_SHARDS, .help = "sessions by tickets are in the shards below N (1): the same at both ends" }
 
 /* Ends the program with status 2 and a message unless the options that were taken go together.
  * `name` and `value` are the program's own one. */

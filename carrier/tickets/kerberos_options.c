@@ -3,24 +3,6 @@
 #include "kerberos.h"
 #include "words.h"
 
-int kerberos_option(const char *program, struct kerberos_options *o, int letter, const char *word)
-{
-    switch (letter) {
-    case KERBEROS_KEYTAB: o->keytab = word; break;
-    case KERBEROS_SERVICE: o->service = word; break;
-    case KERBEROS_CLIENT: o->client = word; break;
-    case KERBEROS_ALLOW: o->allowed = word; break;
-    case KERBEROS_ETYPE:
-        o->etype = (int32_t)option_number(program, "etype", word, 17, 18);
-        break;
-    case KERBEROS_SHARDS:
-        o->shards = option_number(program, "ticket-shards", word, 1, CARRIER_SHARDS);
-        break;
-    default: return 0;
-    }
-    return 1;
-}
-
 void kerberos_check_options(const char *program, const struct kerberos_options *o,
                             const char *name, const char *value)
 {
