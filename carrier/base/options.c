@@ -10,14 +10,15 @@ enum { HELP = 256, VERSION, FIRST, COLUMN = 19 }; /* letters for getopt_long; wh
 
 /* ---- The usage */
 
+/* Whether all was printed is asked at the end. */
 static void print_row(FILE *to, const struct option_row *row)
 {
     const char *value = row->value != NULL ? row->value : "", *line = row->help, *end;
     int width = fprintf(to, "  --%s%s%s", row->word, *value != 0 ? " " : "", value);
-    (void)fprintf(to, "%*s", width < COLUMN - 1 ? COLUMN - width : 2, "");
-    for (; (end = strchr(line, '\n')) != NULL; line = end + 1)
-        (void)fprintf(to, "%.*s\n%*s", (int)(end - line), line, COLUMN, "");
-    (void)fprintf(to, "%s\n", line); /* whether all was printed is asked at the end */
+    width = fprintf(to, "%*s", width < COLUMN - 1 ? COLUMN - width : 2, "");
+    for (; width >= 0 && (end = strchr(line, '\n')) != NULL; line = end + 1)
+        width = fprintf(to, "%.*s\n%*s", (int)(end - line), line, COLUMN, "");
+    (void)fprintf(to, "%s\n", line); /* as above */
 }
 
 static void end_with_usage(const struct usage *usage, int status) __attribute__((noreturn));
@@ -25,10 +26,10 @@ static void end_with_usage(const struct usage *usage, int status)
 {
     FILE *to = status == 0 ? stdout : stderr;
     size_t i;
-    (void)fputs(usage->begin, to); /* as above */
+    (void)fputs(usage->begin, to); /* it is asked below whether all was printed */
     for (i = 0; i < usage->count; i++)
         print_row(to, &usage->rows[i]);
-    (void)fprintf(to, "  --help, --version\n%s", usage->end);
+    (void)fprintf(to, "  --help, --version\n%s", usage->end); /* as above */
     exit(fflush(to) == 0 && !ferror(to) ? status : 1);
 }
 
