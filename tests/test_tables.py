@@ -525,6 +525,56 @@ def of_keys():
     yield f"{HELP}, open", f"and without {', '.join(without[:-1])} and {without[-1]}" in told, True
 
 
+# ---- what a caller leaves out
+
+ENDS = {"Sealer": "sealer", "Opener": "opener", "Receiver": "receiver", "Peer": "peer", "Demand": "values"}
+
+
+def defaults_of_python():
+    """Of each argument of a public class's constructor, or field of its, that has one."""
+    for name, module in ENDS.items():
+        tree = ast.parse(building.text_of(f"python/krbrelay/{module}.py"))
+        kind, = (it for it in tree.body if isinstance(it, ast.ClassDef) and it.name == name)
+        for it in kind.body:
+            if isinstance(it, ast.FunctionDef) and it.name == "__init__":
+                yield from ((f"{name}.{word.arg}", ast.unparse(value)) for word, value in
+                            zip(it.args.kwonlyargs, it.args.kw_defaults) if value is not None)
+            elif isinstance(it, ast.AnnAssign) and it.value is not None:
+                yield f"{name}.{it.target.id}", ast.unparse(it.value)
+
+
+def defaults_of_rust():
+    """Of the fields that a constructor, or Default, gives a value of its own."""
+    text = building.text_of("rust/src/values.rs")
+    for function, kind, fields in re.findall(r"fn (new|default|of_sender)\(.*?-> (Session|Expect|Demand) \{\s*\w+ \{(.*?)\}", text, re.S):
+        place = f"{kind}.{function}" if function == "of_sender" else kind
+        yield from ((f"{place}.{name}", value) for name, value in re.findall(r"(\w+): ([^,{}]+)", fields)
+                    if value != f"Some({name})")
+
+
+def defaults_of_go():
+    """Of the fields that a function sets to a number; and of the one whose zero is the opposite of C's."""
+    text = building.text_of("go/values.go")
+    for function, fields in re.findall(r"^func (New\w+|\w+Of)\([^\n]*\{\n\treturn \w+\{(.*)\}$", text, re.M):
+        yield from ((f"{function}.{name}", value) for name, value in re.findall(r"(\w+): ((?:Of\(\w+\()?\d+)", fields))
+    if "raw.require_time = flag(e.RequireReceiver), flag(!e.OptionalTime)" in text:
+        yield "Expect.!OptionalTime", "true"
+
+
+def plain(value):
+    """A default as the table says it: `Some(300)` and `Of(uint32(300` are 300, `How.REQUIRED` is required."""
+    return re.split(r"::|\.|\(", value.strip().rstrip(")"))[-1].lower()
+
+
+def of_defaults():
+    """Each language's defaults are those of tables/defaults.toml, and no others."""
+    table = tomllib.loads(building.text_of("tables/defaults.toml"))
+    for language, found in (("python", defaults_of_python()), ("rust", defaults_of_rust()), ("go", defaults_of_go())):
+        wanted = {place: row["value"] for row in table.values() for place in row.get(language, ())}
+        found = {place: plain(value) for place, value in found}
+        yield from ((f"{language}, {place}", found.get(place), wanted.get(place)) for place in sorted({*found, *wanted}))
+
+
 # What a file begins with that says what it is, by its ending. A file of C leaves it to the header of its name.
 BEGINS = {"c": r"/\*", "h": r"/\*|//", "rs": "//!", "go": r"//(?!go:)|//go:build .*\n\npackage \w+\n\n//", "rattle": "//!",
           "rt": "//!", "py": r'(?:#!.*\n)?"""'}
@@ -674,6 +724,11 @@ def test_order(found, wanted):
 
 @compared(of_fields)
 def test_fields(found, wanted):
+    assert found == wanted
+
+
+@compared(of_defaults)
+def test_defaults(found, wanted):
     assert found == wanted
 
 

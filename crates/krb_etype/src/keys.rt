@@ -1,9 +1,9 @@
 //! A session key with the keys derived from it.
 
-ghost use Rattle.std.specs.Prelude.{◌≡◌, ◌≤◌, ◌+◌, ◌++◌, IfSome, false, length};
+ghost use Rattle.std.specs.Prelude.{◌≡◌, ◌≤◌, ◌↔◌, ◌+◌, ◌++◌, IfSome, IsFalse, IsTrue, false, length};
 ghost use Rattle.krb_aes.specs.Keys.{expanded_key};
 ghost use Rattle.krb_aes.specs.Stealing.{cts};
-ghost use Rattle.krb_base.specs.Bytes.{AreBytes};
+ghost use Rattle.krb_base.specs.Bytes.{AreBytes, AreZero};
 ghost use Rattle.krb_keys.specs.BatchMac.{HoldsBatchKey};
 ghost use Rattle.krb_keys.specs.Hmac.{hmac96, joined};
 ghost use Rattle.krb_etype.specs.declared.private_keys.End.TheVariants.{Sealer, Opener};
@@ -238,18 +238,23 @@ impl Keys {
     }
 
     /// Makes the key of the codes that its purpose asks for ready for eight texts at a time, unless it is.
-    /// So what makes one code at a time doesn't pay for it.
-    pub fn prepare_batch(&mut self)
-        ensures { self.new ≡ self.old }
+    /// So what makes one code at a time doesn't pay for it. Answers whether that key is there: wiped keys have none.
+    pub fn prepare_batch(&mut self) -> bool
+        ensures there { IsTrue result ↔ self.old.wiped ≡ false }
+        ensures none { IsFalse result → AreZero self.old.key }
+        ensures same { self.new ≡ self.old }
     {
-        if self.wiped || self.batch.is_some() {
-            return;
+        if self.wiped {
+            return false;
         }
-        let key = match self.purpose {
-            Purpose::Checksum => checksum_batch(&self.base),
-            Purpose::Encryption => integrity_batch(&self.base),
-        };
-        end_batch(self.batch.replace(key));
+        if self.batch.is_none() {
+            let key = match self.purpose {
+                Purpose::Checksum => checksum_batch(&self.base),
+                Purpose::Encryption => integrity_batch(&self.base),
+            };
+            end_batch(self.batch.replace(key));
+        }
+        self.batch.is_some()
     }
 
     /// That key, if it was made ready.

@@ -2,6 +2,7 @@
 
 ghost use Rattle.std.specs.Prelude.{◌≡◌, ◌⊎◌, ◌+◌, ◌<◌, ◌≤◌, length, replicate, IsFalse, IsTrue, IfErr, IfOk, Ok, Err, OnOk, OnErr};
 ghost use Rattle.std.specs.Option.{ForSome};
+ghost use Rattle.krb_base.specs.Bytes.{AreZero};
 ghost use Rattle.krb_base.specs.Limits.{last_number};
 ghost use Rattle.krb_record.specs.Record.{is_close, kind_of};
 ghost use Rattle.krb_seal.specs.Covered.{IsCodedFrame};
@@ -120,11 +121,12 @@ impl Receiver {
         &self.opener
     }
 
-    /// Makes the key of its frames' codes ready for eight at a time, as [`Opener::prepare_batch`] does.
-    pub fn prepare_batch(&mut self)
-        ensures { self.new ≡ self.old }
+    /// Makes the key of its frames' codes ready for eight at a time, as [`Opener::prepare_batch`] does, and answers as it.
+    pub fn prepare_batch(&mut self) -> bool
+        ensures there { IsFalse result → AreZero self.old.opener.key }
+        ensures same { self.new ≡ self.old }
     {
-        self.opener.prepare_batch();
+        self.opener.prepare_batch()
     }
 
     /// Takes a frame at the timestamp `now`: what it carries, or the refusal of the first check

@@ -1,6 +1,6 @@
 //! The sealers.
 
-ghost use Rattle.std.specs.Prelude.{◌≡◌, ◌≤◌, ◌+◌, replicate, pos};
+ghost use Rattle.std.specs.Prelude.{◌≡◌, ◌≤◌, ◌+◌, ◌↔◌, replicate, pos, IsTrue, false};
 ghost use Rattle.krb_base.specs.Limits.{user_data_limit};
 ghost use Rattle.krb_etype.specs.Etype.{number_of};
 ghost use Rattle.krb_seal.specs.Session.{HasShortAddresses};
@@ -153,11 +153,13 @@ impl<E> AesSealer<E> {
     }
 
     /// Makes the key of its codes ready for eight messages at a time, for what seals several with its
-    /// [`AesSealer::parts`]. What seals one at a time doesn't need it.
-    pub fn prepare_batch(&mut self)
-        ensures { self.new ≡ self.old }
+    /// [`AesSealer::parts`]. What seals one at a time doesn't need it. Answers whether it is there: a wiped sealer has
+    /// none.
+    pub fn prepare_batch(&mut self) -> bool
+        ensures there { IsTrue result ↔ self.old.wiped ≡ false }
+        ensures same { self.new ≡ self.old }
     {
-        self.keys.prepare_batch();
+        self.keys.prepare_batch()
     }
 
     /// What it seals with.

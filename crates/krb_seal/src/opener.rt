@@ -1,7 +1,8 @@
 //! The opener of a session's frames.
 
-ghost use Rattle.std.specs.Prelude.{◌≡◌, ◌≤◌, pos, true, length, replicate, Err, IfErr, IfOk, IfSome};
+ghost use Rattle.std.specs.Prelude.{◌≡◌, ◌≤◌, pos, true, length, replicate, Err, IfErr, IfOk, IfSome, IsFalse};
 ghost use Rattle.std.specs.Option.{ForSome};
+ghost use Rattle.krb_base.specs.Bytes.{AreZero};
 ghost use Rattle.krb_base.specs.Limits.{frame_limit};
 ghost use Rattle.krb_der.specs.Body.{InRange};
 ghost use Rattle.krb_etype.specs.declared.private_keys.End.TheVariants as ends;
@@ -148,11 +149,12 @@ impl Opener {
     }
 
     /// Makes the key of its frames' codes ready for eight at a time. What opens one at a time doesn't
-    /// need it.
-    pub fn prepare_batch(&mut self)
-        ensures { self.new ≡ self.old }
+    /// need it. Answers whether it is there: a wiped opener, whose key is zeros, has none.
+    pub fn prepare_batch(&mut self) -> bool
+        ensures there { IsFalse result → AreZero self.old.key }
+        ensures same { self.new ≡ self.old }
     {
-        self.keys.prepare_batch();
+        self.keys.prepare_batch()
     }
 
     /// That key, if it was made ready. There is none once the opener is wiped.

@@ -1,6 +1,6 @@
 //! A sealer whose frames fit.
 
-ghost use Rattle.std.specs.Prelude.{◌≡◌, ◌≤◌, ◌+◌, true, drop, length, take, IfErr, IfOk, OnOk, OnErr};
+ghost use Rattle.std.specs.Prelude.{◌≡◌, ◌≤◌, ◌+◌, ◌↔◌, true, drop, length, take, IfErr, IfOk, OnOk, OnErr, IsTrue, false};
 ghost use Rattle.krb_structs.specs.Fault.{answer_of, fault_code};
 ghost use Rattle.krb_structs.specs.Moment.{micros_of};
 ghost use Rattle.krb_structs.specs.Reasons.{ModeAnswer, NewAnswer, RecordAnswer, SealAnswer, SizeAnswer};
@@ -77,11 +77,12 @@ impl AnySealer {
         }
     }
 
-    /// Makes the key of its codes ready for eight messages at a time, as `AesSealer::prepare_batch` does.
-    pub fn prepare_batch(&mut self)
-        ensures { self.new ≡ self.old }
+    /// Makes the key of its codes ready for eight messages at a time, as `AesSealer::prepare_batch` does, and answers as it.
+    pub fn prepare_batch(&mut self) -> bool
+        ensures there { IsTrue result ↔ self.old.wiped ≡ false }
+        ensures same { self.new ≡ self.old }
     {
-        self.sealer.prepare_batch();
+        self.sealer.prepare_batch()
     }
 
     /// The sealer that it holds, for what seals several messages in one call.

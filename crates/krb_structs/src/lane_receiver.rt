@@ -1,7 +1,8 @@
 //! What takes the frames of one sender, one number after another.
 
-ghost use Rattle.std.specs.Prelude.{◌≡◌, ◌≤◌, length, drop, take, Err, IfErr, IfOk, OnErr, OnOk, Some};
+ghost use Rattle.std.specs.Prelude.{◌≡◌, ◌≤◌, length, drop, take, Err, IfErr, IfOk, OnErr, OnOk, Some, IsFalse};
 ghost use Rattle.std.specs.Option.{ForSome};
+ghost use Rattle.krb_base.specs.Bytes.{AreZero};
 ghost use Rattle.krb_base.specs.Limits.{last_number};
 ghost use Rattle.krb_peers.specs.Receiver.{IsJudgement, OpensRecord, TakesMemory};
 ghost use Rattle.krb_seal.specs.declared.refusal.Refusal.TheVariants.{BadOrder};
@@ -94,11 +95,12 @@ impl LaneReceiver {
         self.receiver.opener()
     }
 
-    /// Makes the key of its frames' codes ready for eight at a time, as [`Opener::prepare_batch`] does.
-    pub fn prepare_batch(&mut self)
-        ensures { self.new ≡ self.old }
+    /// Makes the key of its frames' codes ready for eight at a time, as [`Opener::prepare_batch`] does, and answers as it.
+    pub fn prepare_batch(&mut self) -> bool
+        ensures there { IsFalse result → AreZero self.old.opener.key }
+        ensures same { self.new ≡ self.old }
     {
-        self.receiver.prepare_batch();
+        self.receiver.prepare_batch()
     }
 
     /// Takes a frame at a moment, and writes the bytes of its record after the first: answers the

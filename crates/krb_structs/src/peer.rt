@@ -1,6 +1,6 @@
 //! One end of a session of plain user data, in both directions.
 
-ghost use Rattle.std.specs.Prelude.{◌≡◌, ◌≤◌, ◌↔◌, ◌+◌, true, drop, length, take, IfErr, IfOk, IsTrue, OnErr, OnOk, None, Some};
+ghost use Rattle.std.specs.Prelude.{◌≡◌, ◌≤◌, ◌↔◌, ◌+◌, true, drop, length, take, IfErr, IfOk, IsTrue, OnErr, OnOk, None, Some, false};
 ghost use Rattle.krb_seal.specs.Sealer.{SealsNext, end_of_numbers, wiped_state};
 ghost use Rattle.krb_structs.specs.Fault.{IsDone, Needs, answer_of};
 ghost use Rattle.krb_structs.specs.Moment.{micros_of};
@@ -183,11 +183,12 @@ impl Peer {
         self.sealer.seal(alloc, user, at, confounder, out)
     }
 
-    /// Makes the key of its own codes ready for eight messages at a time.
-    pub fn prepare_batch(&mut self)
-        ensures { self.new ≡ self.old }
+    /// Makes the key of its own codes ready for eight messages at a time. Answers whether it is there: a wiped peer has none.
+    pub fn prepare_batch(&mut self) -> bool
+        ensures there { IsTrue result ↔ self.old.sealer.wiped ≡ false }
+        ensures same { self.new ≡ self.old }
     {
-        self.sealer.prepare_batch();
+        self.sealer.prepare_batch()
     }
 
     /// The sealer that it holds, for what seals several messages in one call.
