@@ -135,8 +135,8 @@ static void stop_receiver(int party)
 static void end_cleanly(int party)
 {
     uint64_t took;
-    if (!party_run(party, is_sender(party) ? stop_sender : stop_receiver, &took) && party_bytes(party) > 0)
-        rule_broken(RULE_LEAKS, "program %d ends with %lu bytes", party, (unsigned long)party_bytes(party));
+    if (!party_run(party, is_sender(party) ? stop_sender : stop_receiver, &took) && memory_of[party] > 0)
+        rule_broken(RULE_LEAKS, "program %d ends with %lu bytes", party, (unsigned long)memory_of[party]);
     party_end(party);
 }
 
@@ -222,7 +222,7 @@ uint64_t ends_next(void)
     for (i = SENDER; i < PARTIES; i++)
         if (world.may_run[i] && world.resumes[i] < at)
             at = world.resumes[i];
-    return at;
+    return at > now + MILLISECOND ? at : now + MILLISECOND;
 }
 
 int has_one_store(void)

@@ -31,7 +31,7 @@ int engine_has_any(void)
     return plant > PLANT_NONE && plant < PLANT_COUNT;
 }
 
-WRAPPED(enum krbrelay_answer, sending_state, const struct krbrelay_sending *end, uint64_t *under_way, uint64_t *room,
+WRAPPED(enum krbrelay_answer, krbrelay_sending_state, const struct krbrelay_sending *end, uint64_t *under_way, uint64_t *room,
         uint32_t *settled, uint32_t *stands)
 {
     enum krbrelay_answer answer = __real_krbrelay_sending_state(end, under_way, room, settled, stands);
@@ -43,7 +43,7 @@ WRAPPED(enum krbrelay_answer, sending_state, const struct krbrelay_sending *end,
 /* ---- A receiver */
 
 /* The fault: each receipt is asked for as if its pause were over. */
-WRAPPED(enum krbrelay_answer, shard_receipt, struct krbrelay_shard *shard, uint64_t at_now, uint32_t *place,
+WRAPPED(enum krbrelay_answer, krbrelay_shard_receipt, struct krbrelay_shard *shard, uint64_t at_now, uint32_t *place,
         struct krbrelay_receipt *due)
 {
     static uint64_t later;
@@ -53,7 +53,7 @@ WRAPPED(enum krbrelay_answer, shard_receipt, struct krbrelay_shard *shard, uint6
     return __real_krbrelay_shard_receipt(shard, at_now + later, place, due);
 }
 
-WRAPPED(enum krbrelay_answer, shard_listed, struct krbrelay_shard *shard, uint64_t list, uint64_t last, uint32_t *is_elsewhere)
+WRAPPED(enum krbrelay_answer, krbrelay_shard_listed, struct krbrelay_shard *shard, uint64_t list, uint64_t last, uint32_t *is_elsewhere)
 {
     struct krbrelay_reading read = { .is_open = 0 };
     *is_elsewhere = 0;
@@ -63,7 +63,7 @@ WRAPPED(enum krbrelay_answer, shard_listed, struct krbrelay_shard *shard, uint64
     return KRBRELAY_OK;
 }
 
-WRAPPED(enum krbrelay_answer, judge, const struct krbrelay_head *head, const struct krbrelay_opening *opening,
+WRAPPED(enum krbrelay_answer, krbrelay_judge, const struct krbrelay_head *head, const struct krbrelay_opening *opening,
         uint32_t *judged)
 {
     struct krbrelay_head of = *head;

@@ -34,9 +34,4 @@ int engine_plant(const char *text);
 int engine_has(enum plant it);
 int engine_has_any(void);
 
-#define WRAPPED(type, name, ...) \
-    type __real_krbrelay_##name(__VA_ARGS__); \
-    type __wrap_krbrelay_##name(__VA_ARGS__); \
-    type __wrap_krbrelay_##name(__VA_ARGS__)
-
 #endif

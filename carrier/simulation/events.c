@@ -1,6 +1,5 @@
 /* What happens to the programs and their files in each second of the disturbed minute. */
 #include "world.h"
-#include "statements.h"
 
 #include <stdio.h>
 #include <stdlib.h>
@@ -221,8 +220,6 @@ static unsigned index_of(const char *session)
 
 static int take_next(void *given, int count, char **values, char **names)
 {
-    (void)count;
-    (void)names;
     if (index_of(values[0]) < MOST_NAMES)
         ((sqlite3_int64 *)given)[index_of(values[0])] = atoll(values[1]);
     return 0;
@@ -230,8 +227,6 @@ static int take_next(void *given, int count, char **values, char **names)
 
 static int take_sealed(void *given, int count, char **values, char **names)
 {
-    (void)count;
-    (void)names;
     if (index_of(values[0]) < MOST_NAMES)
         ((char *)given)[index_of(values[0])] = 1;
     return 0;

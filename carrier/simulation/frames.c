@@ -1,13 +1,10 @@
 /* The carrier, in memory, as JetStream is: shards with all that was published, and of each session's receipts the last. */
 #include "carrier.h"
 #include "clock.h"
-#include "kinds.h"
 #include "world.h"
 
 #include <stdlib.h>
 #include <string.h>
-
-#pragma GCC diagnostic ignored "-Wunused-parameter"
 
 enum { CONFIRMED_WITHIN = 50, WAIT = 10, FAIR_WAIT = 50, HAPPENS_ALL_THE_SAME = 4 };
 
@@ -18,10 +15,6 @@ struct shard_of_frames { struct items items; uint64_t incarnation; };
 static struct shard_of_frames shards[SHARDS];
 static struct items receipts;
 static uint64_t turns;
-static unsigned long published[MOST_NAMES + 1], under_way[SHARDS];
-static unsigned char left[MOST_NAMES + 1][MOST_TEXTS];
-static unsigned said_of[MOST_NAMES + 1];
-static unsigned looks[PARTIES], answered_looks[PARTIES];
 
 /* A confirmation that is under way. */
 struct answer { uint64_t due; struct confirmed it; struct answer *next; };
@@ -112,40 +105,6 @@ unsigned frames_receipts_kept(unsigned name)
     return number;
 }
 
-unsigned long frames_published(unsigned name)
-{
-    return published[name];
-}
-
-unsigned frames_left(unsigned name, unsigned number)
-{
-    return left[name][number];
-}
-
-unsigned frames_vain_looks(void)
-{
-    unsigned i, most = 0;
-    for (i = 0; i < PARTIES; i++) {
-        most = answered_looks[i] == 0 && looks[i] > most ? looks[i] : most;
-        looks[i] = answered_looks[i] = 0;
-    }
-    return most;
-}
-
-unsigned long frames_under_way(unsigned shard)
-{
-    unsigned long number = under_way[shard];
-    under_way[shard] = 0;
-    return number;
-}
-
-unsigned frames_receipts(unsigned name)
-{
-    unsigned number = said_of[name];
-    said_of[name] = 0;
-    return number;
-}
-
 /* ---- Faults */
 
 void port_is_killed(void)
@@ -225,10 +184,10 @@ static int confirm(struct connection *c, unsigned shard, uint32_t tag, uint64_t 
 static void count_published(unsigned shard, const char *session, uint64_t number)
 {
     unsigned name = name_of(session);
-    published[name]++;
-    under_way[shard]++;
-    if (session[0] == 's' && number < MOST_TEXTS && left[name][number] < UINT8_MAX)
-        left[name][number]++;
+    seen.published[name]++;
+    seen.second.under_way[shard]++;
+    if (session[0] == 's' && number < MOST_TEXTS && seen.left[name][number] < UINT8_MAX)
+        seen.left[name][number]++;
 }
 
 /* Somebody copies it. */
@@ -260,7 +219,7 @@ static int publish(struct carrier *base, unsigned shard, const char *session, ui
         put_frame(shard, session, frame, len);
     if (is_struck(faults.lost, KIND_LOST) || is_lost_once(&faults.loses_confirmation))
         return 0;
-    under_way[shard] -= under_way[shard] > 0;
+    seen.second.under_way[shard] -= seen.second.under_way[shard] > 0;
     return confirm((struct connection *)base, shard, tag, number);
 }
 
@@ -353,7 +312,7 @@ static int acknowledge(struct carrier *base, unsigned shard, const struct carrie
     if (fails())
         return CARRIER_FAULT;
     for (i = 0; i < count; i++) {
-        said_of[name_of(list[i].session)]++;
+        seen.second.receipts[name_of(list[i].session)]++;
         happened(KIND_CALM, faults.loses_receipts != 0);
         if (!faults.loses_receipts && !is_struck(faults.lost, KIND_LOST))
             keep_receipt(shard, &list[i]);
@@ -366,10 +325,10 @@ static int give_receipts(struct carrier *base, carrier_receipt *take, void *give
 {
     struct connection *c = (struct connection *)base;
     size_t i;
-    looks[running]++;
+    seen.second.looks[running]++;
     if (fails())
         return CARRIER_FAULT;
-    answered_looks[running]++;
+    seen.second.answered[running]++;
     for (i = 0; i < receipts.count; i++) {
         const struct item *it = &receipts.at[i];
         if (it->turn <= c->heard)

@@ -207,15 +207,15 @@ static enum krbrelay_answer made_load(struct made *made, uint32_t place, const s
 /* ---- The calls */
 
 /* For how many turns of others that published something each session waits. */
-static struct turns { const struct krbrelay_lane *lane; uint64_t turns, since[PLACES]; } seen[LANES];
+static struct turns { const struct krbrelay_lane *lane; uint64_t turns, since[PLACES]; } turns_seen[LANES];
 
 static struct turns *turns_of(const struct krbrelay_lane *lane)
 {
     unsigned i = 0;
-    while (i + 1 < LANES && seen[i].lane != NULL && seen[i].lane != lane)
+    while (i + 1 < LANES && turns_seen[i].lane != NULL && turns_seen[i].lane != lane)
         i++;
-    seen[i].lane = lane;
-    return &seen[i];
+    turns_seen[i].lane = lane;
+    return &turns_seen[i];
 }
 
 /* The session of a place waits no longer. */
@@ -235,7 +235,7 @@ static void note_turn(const struct krbrelay_lane *lane, const struct krbrelay_se
     end_wait(lane, served->place);
 }
 
-WRAPPED(enum krbrelay_answer, lane_add, struct krbrelay_lane *lane, const struct krbrelay_stored *row, uint32_t opens,
+WRAPPED(enum krbrelay_answer, krbrelay_lane_add, struct krbrelay_lane *lane, const struct krbrelay_stored *row, uint32_t opens,
         uint32_t *place)
 {
     struct made *made;
@@ -252,14 +252,14 @@ WRAPPED(enum krbrelay_answer, lane_add, struct krbrelay_lane *lane, const struct
     return made_load(made, *place, row, opens);
 }
 
-WRAPPED(enum krbrelay_answer, lane_reload, struct krbrelay_lane *lane, uint32_t place, const struct krbrelay_stored *row,
+WRAPPED(enum krbrelay_answer, krbrelay_lane_reload, struct krbrelay_lane *lane, uint32_t place, const struct krbrelay_stored *row,
         uint32_t opens)
 {
     end_wait(lane, place);
     return engine_has_any() ? made_load(lane->at, place, row, opens) : __real_krbrelay_lane_reload(lane, place, row, opens);
 }
 
-WRAPPED(enum krbrelay_answer, lane_session, struct krbrelay_lane *lane, uint32_t place, struct krbrelay_sending *sending)
+WRAPPED(enum krbrelay_answer, krbrelay_lane_session, struct krbrelay_lane *lane, uint32_t place, struct krbrelay_sending *sending)
 {
     if (!engine_has_any())
         return __real_krbrelay_lane_session(lane, place, sending);
@@ -267,7 +267,7 @@ WRAPPED(enum krbrelay_answer, lane_session, struct krbrelay_lane *lane, uint32_t
     return KRBRELAY_OK;
 }
 
-WRAPPED(uint32_t, lane_turn, struct krbrelay_lane *lane, uint64_t at_now, struct krbrelay_served *served)
+WRAPPED(uint32_t, krbrelay_lane_turn, struct krbrelay_lane *lane, uint64_t at_now, struct krbrelay_served *served)
 {
     uint32_t is_served = !engine_has_any() ? __real_krbrelay_lane_turn(lane, at_now, served)
                          : lane->at != NULL ? made_turn(lane->at, at_now, served) : 0;
@@ -276,7 +276,7 @@ WRAPPED(uint32_t, lane_turn, struct krbrelay_lane *lane, uint64_t at_now, struct
     return is_served;
 }
 
-WRAPPED(uint64_t, lane_next_time, struct krbrelay_lane *lane)
+WRAPPED(uint64_t, krbrelay_lane_next_time, struct krbrelay_lane *lane)
 {
     struct made *made = lane->at;
     uint64_t room = 0, next = UINT64_MAX;
@@ -292,7 +292,7 @@ WRAPPED(uint64_t, lane_next_time, struct krbrelay_lane *lane)
     return next;
 }
 
-WRAPPED(enum krbrelay_answer, lane_sealed, struct krbrelay_lane *lane, uint32_t place, uint64_t count)
+WRAPPED(enum krbrelay_answer, krbrelay_lane_sealed, struct krbrelay_lane *lane, uint32_t place, uint64_t count)
 {
     struct turns *turns = turns_of(lane);
     struct made *made = lane->at;
@@ -303,7 +303,7 @@ WRAPPED(enum krbrelay_answer, lane_sealed, struct krbrelay_lane *lane, uint32_t 
     return krbrelay_sending_sealed(&made->ends[place].end, count) == KRBRELAY_OK ? settle(made, place, 1) : KRBRELAY_ARGUMENT;
 }
 
-WRAPPED(enum krbrelay_answer, lane_confirmed, struct krbrelay_lane *lane, uint32_t place, uint64_t number, uint64_t offset,
+WRAPPED(enum krbrelay_answer, krbrelay_lane_confirmed, struct krbrelay_lane *lane, uint32_t place, uint64_t number, uint64_t offset,
         uint64_t at_now, uint32_t *counts)
 {
     struct made *made = lane->at;
@@ -313,7 +313,7 @@ WRAPPED(enum krbrelay_answer, lane_confirmed, struct krbrelay_lane *lane, uint32
     return settle(made, place, 1);
 }
 
-WRAPPED(enum krbrelay_answer, lane_receipt, struct krbrelay_lane *lane, uint32_t place, const struct krbrelay_receipt *receipt,
+WRAPPED(enum krbrelay_answer, krbrelay_lane_receipt, struct krbrelay_lane *lane, uint32_t place, const struct krbrelay_receipt *receipt,
         const uint8_t own[KRBRELAY_HISTORY_SIZE], uint32_t own_is, uint64_t at_now, uint32_t *heard)
 {
     struct made *made = lane->at;
@@ -329,7 +329,7 @@ WRAPPED(enum krbrelay_answer, lane_receipt, struct krbrelay_lane *lane, uint32_t
     return settle(made, place, 1);
 }
 
-WRAPPED(enum krbrelay_answer, lane_stop, struct krbrelay_lane *lane, uint32_t place)
+WRAPPED(enum krbrelay_answer, krbrelay_lane_stop, struct krbrelay_lane *lane, uint32_t place)
 {
     struct made *made = lane->at;
     end_wait(lane, place);
@@ -339,7 +339,7 @@ WRAPPED(enum krbrelay_answer, lane_stop, struct krbrelay_lane *lane, uint32_t pl
     return krbrelay_sending_reconnected(&made->ends[place].end) == KRBRELAY_OK ? settle(made, place, 1) : KRBRELAY_ARGUMENT;
 }
 
-WRAPPED(enum krbrelay_answer, lane_release, struct krbrelay_lane *lane, uint32_t place)
+WRAPPED(enum krbrelay_answer, krbrelay_lane_release, struct krbrelay_lane *lane, uint32_t place)
 {
     struct made *made = lane->at;
     if (!engine_has_any())
@@ -348,7 +348,7 @@ WRAPPED(enum krbrelay_answer, lane_release, struct krbrelay_lane *lane, uint32_t
     return settle(made, place, 1);
 }
 
-WRAPPED(enum krbrelay_answer, lane_listed, struct krbrelay_lane *lane, uint32_t has_list, uint64_t list)
+WRAPPED(enum krbrelay_answer, krbrelay_lane_listed, struct krbrelay_lane *lane, uint32_t has_list, uint64_t list)
 {
     struct made *made;
     enum krbrelay_answer answer = KRBRELAY_OK;
@@ -366,10 +366,7 @@ WRAPPED(enum krbrelay_answer, lane_listed, struct krbrelay_lane *lane, uint32_t 
     return answer;
 }
 
-void __real_krbrelay_lane_free(struct krbrelay_lane *lane);
-void __wrap_krbrelay_lane_free(struct krbrelay_lane *lane);
-
-void __wrap_krbrelay_lane_free(struct krbrelay_lane *lane)
+WRAPPED(void, krbrelay_lane_free, struct krbrelay_lane *lane)
 {
     struct made *made = lane->at;
     memset(turns_of(lane), 0, sizeof(struct turns));

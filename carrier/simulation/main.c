@@ -57,7 +57,7 @@ static int goes_with(enum kind kind)
 /* They are drawn by themselves: the same kinds as a profile give the same run. */
 static void draw_kinds(uint64_t seed)
 {
-    struct chance of_kinds = { ~seed };
+    uint64_t of_kinds = ~seed;
     uint64_t count = beside_count > 0 ? chance_below(&of_kinds, MOST_BESIDES) : 0;
     kinds_begin();
     for (; count > 0; count--) {
@@ -78,7 +78,7 @@ static void empty_folder(void)
 static void begin_world(uint64_t seed)
 {
     unsigned i;
-    chance = (struct chance){ seed };
+    chance = seed;
     draw_kinds(seed);
     empty_folder();
     world.seed = seed;
@@ -92,8 +92,7 @@ static void begin_world(uint64_t seed)
 static void begin(uint64_t seed)
 {
     begin_world(seed);
-    faults.carrier_at = now;
-    said_begin();
+    faults.carrier_at = seen.worked_at = now;
     frames_begin();
     ends_begin();
     ends_step(SENDER);
@@ -161,7 +160,7 @@ static void run(uint64_t seed)
     next = now + SECOND;
     while (!is_done()) {
         step_all();
-        party_pass_time(ends_next());
+        now = ends_next();
         while (now >= next && !is_done()) {
             next += SECOND;
             pass_second();

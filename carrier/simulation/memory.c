@@ -1,7 +1,4 @@
 /* In the place of malloc and its like (--wrap), also in libkrbrelay.a. What the C library allocates itself isn't seen. */
-#include "memory.h"
-#include "kinds.h"
-#include "parties.h"
 #include "ports.h"
 
 #include <string.h>
@@ -17,15 +14,10 @@ struct block {
     uint64_t aligned;
 };
 
-void *__real_malloc(size_t size);
-void __real_free(void *at);
-void *__wrap_malloc(size_t size);
-void *__wrap_calloc(size_t count, size_t size);
-void *__wrap_realloc(void *at, size_t size);
-void __wrap_free(void *at);
-
+size_t memory_of[PARTIES];
 static struct block *first[PARTIES], *buckets[BUCKETS];
-static size_t bytes_of[PARTIES];
+
+void __real_free(void *at);
 
 /* ---- All blocks */
 
@@ -51,7 +43,7 @@ static void add_block(struct block *it, size_t size)
         it->after->before = it;
     first[running] = it;
     *bucket = it;
-    bytes_of[running] += size;
+    memory_of[running] += size;
 }
 
 static void remove_block(struct block **place)
@@ -64,13 +56,8 @@ static void remove_block(struct block **place)
         it->before->after = it->after;
     else
         first[it->party] = it->after;
-    bytes_of[it->party] -= it->size;
+    memory_of[it->party] -= it->size;
     __real_free(it);
-}
-
-size_t party_bytes(int party)
-{
-    return bytes_of[party];
 }
 
 void memory_free(int party)
@@ -90,7 +77,7 @@ static int fails(void)
     return 1;
 }
 
-void *__wrap_malloc(size_t size)
+WRAPPED(void *, malloc, size_t size)
 {
     struct block *it = fails() ? NULL : __real_malloc(sizeof *it + size);
     if (it == NULL)
@@ -99,13 +86,13 @@ void *__wrap_malloc(size_t size)
     return it + 1;
 }
 
-void *__wrap_calloc(size_t count, size_t size)
+WRAPPED(void *, calloc, size_t count, size_t size)
 {
     void *at = size == 0 || count <= SIZE_MAX / size ? __wrap_malloc(count * size) : NULL;
     return at != NULL ? memset(at, 0, count * size) : NULL;
 }
 
-void __wrap_free(void *at)
+WRAPPED(void, free, void *at)
 {
     struct block **place = place_of(at);
     if (*place != NULL)
@@ -114,7 +101,7 @@ void __wrap_free(void *at)
         __real_free(at); /* the C library's, as of getline */
 }
 
-void *__wrap_realloc(void *at, size_t size)
+WRAPPED(void *, realloc, void *at, size_t size)
 {
     struct block *it = *place_of(at);
     void *more = __wrap_malloc(size);

@@ -1,9 +1,6 @@
-/* Time, chance, and steps that may be left anywhere. */
-#include "parties.h"
+/* Chance, time, and steps that may be left anywhere. */
 #include "clock.h"
-#include "memory.h"
 #include "ports.h"
-#include "statements.h"
 
 #include <setjmp.h>
 #include <sys/random.h>
@@ -11,13 +8,20 @@
 enum { SHORT = 4, SHORT_AND_FAIR = 20, NANOSECONDS_OF_A_LOOK = 1000 };
 
 int running;
-uint64_t now = SECOND;
-struct chance chance;
+uint64_t now = SECOND, chance;
 static uint64_t spent; /* within this step */
 static sigjmp_buf end_of_step;
 static int is_within;
 
-/* ---- Chance */
+/* ---- Chance, by splitmix64 */
+
+uint64_t chance_below(uint64_t *state, uint64_t limit)
+{
+    uint64_t it = *state += UINT64_C(0x9e3779b97f4a7c15);
+    it = (it ^ (it >> 30)) * UINT64_C(0xbf58476d1ce4e5b9);
+    it = (it ^ (it >> 27)) * UINT64_C(0x94d049bb133111eb);
+    return (it ^ (it >> 31)) % limit;
+}
 
 unsigned drawn(unsigned below)
 {
@@ -26,21 +30,18 @@ unsigned drawn(unsigned below)
 
 int is_drawn(unsigned thousandths)
 {
-    return thousandths > 0 && chance_is(&chance, thousandths);
+    return thousandths > 0 && drawn(1000) < thousandths;
 }
 
-int __wrap_rand(void);
-int __wrap_rand(void)
+WRAPPED(int, rand, void)
 {
     return (int)drawn(1u << 30);
 }
 
-ssize_t __wrap_getrandom(void *to, size_t len, unsigned flags);
-ssize_t __wrap_getrandom(void *to, size_t len, unsigned flags)
+WRAPPED(ssize_t, getrandom, void *to, size_t len, unsigned flags)
 {
     uint8_t *bytes = to;
     size_t i;
-    (void)flags;
     for (i = 0; i < len; i++)
         bytes[i] = (uint8_t)drawn(256);
     return (ssize_t)len;
@@ -84,11 +85,6 @@ struct krbrelay_moment read_clock(void)
     uint64_t at = moment();
     return (struct krbrelay_moment){ .seconds = (uint64_t)(begun + (int64_t)(at / SECOND) + faults.clock[running]),
                                      .microseconds = (uint32_t)(at / 1000 % 1000000) };
-}
-
-void party_pass_time(uint64_t until)
-{
-    now = until > now + MILLISECOND ? until : now + MILLISECOND;
 }
 
 /* ---- Steps */

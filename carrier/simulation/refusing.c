@@ -1,15 +1,11 @@
 /* The effect of a text, in front of that of effect.c (--wrap): slow, or refused as a database refuses. */
 #include "effects.h"
-#include "kinds.h"
 #include "ports.h"
 
 #include <stdlib.h>
 #include <string.h>
 
 #define WATCHDOG (60 * SECOND) /* of systemd: a step that takes longer is ended */
-
-int __real_take_effect(struct store *store, const struct arrived *it);
-int __wrap_take_effect(struct store *store, const struct arrived *it);
 
 /* Two statements that no database takes: a constraint that a row violates, and a function's error. */
 static const char constraint[] = "INSERT INTO aside (session) VALUES (NULL)";
@@ -18,8 +14,6 @@ static const char error[] = "INSERT INTO aside (session, number, part, text, cli
 
 static struct poison poisons[MOST_POISONS];
 static unsigned count;
-static unsigned short runs[MOST_NAMES][MOST_TEXTS];
-static unsigned long watchdogs;
 
 void effects_poison(struct poison it)
 {
@@ -30,16 +24,6 @@ void effects_poison(struct poison it)
 const struct poison *effects_first_poison(void)
 {
     return count > 0 ? &poisons[0] : NULL;
-}
-
-unsigned effects_run(unsigned name, unsigned serial)
-{
-    return runs[name][serial];
-}
-
-unsigned long effects_watchdogs(void)
-{
-    return watchdogs;
 }
 
 static enum kind kind_of_poison(void)
@@ -64,17 +48,17 @@ static void be_slow(void)
     spend(faults.slow_effects * MILLISECOND);
     if (moment() - now <= WATCHDOG)
         return;
-    watchdogs++;
+    seen.watchdogs++;
     party_killed();
 }
 
-int __wrap_take_effect(struct store *store, const struct arrived *it)
+WRAPPED(int, take_effect, struct store *store, const struct arrived *it)
 {
     unsigned name = name_of(it->stream[0] != 0 ? it->stream : it->session);
     unsigned serial = it->len == 2 ? (unsigned)it->text[0] << 8 | it->text[1] : MOST_TEXTS;
     const struct poison *poison = NULL;
     if (name < MOST_NAMES && serial < MOST_TEXTS) {
-        runs[name][serial] = (unsigned short)(runs[name][serial] + (runs[name][serial] < UINT16_MAX));
+        seen.runs[name][serial] = (unsigned short)(seen.runs[name][serial] + (seen.runs[name][serial] < UINT16_MAX));
         poison = poison_of(name, serial);
     }
     be_slow();

@@ -1,6 +1,5 @@
 /* What has to hold of a run: of each effect, each second, and at the end. */
 #include "world.h"
-#include "statements.h"
 
 #include <krbrelay.h>
 
@@ -30,7 +29,6 @@ static const char *const rule_texts[] = { RULES(RULE_TEXT) };
 static char broken[RULE_COUNT][TEXT];
 static sqlite3_int64 last_effect[SHARDS], last_aside[SHARDS];
 static unsigned unseen, spinning;
-static unsigned long calls_before;
 
 void rule_broken(enum rule rule, const char *form, ...)
 {
@@ -96,8 +94,8 @@ static void see(enum outcome outcome, char **values)
         rule_broken(RULE_DOUBLED, "s%u text %u took effect twice", name, serial);
     it->outcome[serial] = (unsigned char)outcome;
     happened(KIND_ASIDE, outcome == PUT_ASIDE);
-    if (outcome == PUT_ASIDE && effects_run(name, serial) < TRIES)
-        rule_broken(RULE_ASIDE_EARLY, "s%u text %u was put aside after %u tries", name, serial, effects_run(name, serial));
+    if (outcome == PUT_ASIDE && seen.runs[name][serial] < TRIES)
+        rule_broken(RULE_ASIDE_EARLY, "s%u text %u was put aside after %u tries", name, serial, seen.runs[name][serial]);
     it->took_in[serial] = digest_of(values[1]);
     if (outcome == TOOK_EFFECT)
         see_effect(it, name, serial);
@@ -105,8 +103,6 @@ static void see(enum outcome outcome, char **values)
 
 static int take_effects(void *given, int count, char **values, char **names)
 {
-    (void)count;
-    (void)names;
     *(sqlite3_int64 *)given = atoll(values[0]);
     see(TOOK_EFFECT, values);
     return 0;
@@ -114,8 +110,6 @@ static int take_effects(void *given, int count, char **values, char **names)
 
 static int take_asides(void *given, int count, char **values, char **names)
 {
-    (void)count;
-    (void)names;
     *(sqlite3_int64 *)given = atoll(values[0]);
     see(PUT_ASIDE, values);
     return 0;
@@ -131,9 +125,6 @@ static void look_at_table(sqlite3 *db, const char *table, sqlite3_int64 *last, e
 
 static int take_elsewhere(void *given, int count, char **values, char **names)
 {
-    (void)given;
-    (void)count;
-    (void)names;
     rule_broken(RULE_ELSEWHERE, "session %s goes on in another shard than its own", values[0]);
     return 0;
 }
@@ -176,9 +167,6 @@ static int take_text(void *given, int count, char **values, char **names)
 {
     unsigned name = name_of(values[0]), low = 0, high = name < world.names ? looked_at->count[name] : 0;
     sqlite3_int64 id = atoll(values[1]);
-    (void)given;
-    (void)count;
-    (void)names;
     while (low < high) {
         unsigned middle = (low + high) / 2;
         if (looked_at->marks[name][middle].id < id)
@@ -197,9 +185,6 @@ static int take_said(void *given, int count, char **values, char **names)
 {
     unsigned name = name_of(values[0]);
     struct name *it = &world.name[name < world.names ? name : 0];
-    (void)given;
-    (void)count;
-    (void)names;
     if (name >= world.names)
         return 0;
     it->stands = (unsigned)strtoul(values[2], NULL, 10);
@@ -304,23 +289,23 @@ static void look_at_frames(unsigned name)
 {
     unsigned long most = (unsigned long)FRAMES_OF_A_TEXT * world.name[name].serials
                          + FRAMES_OF_A_SECOND * world.second + FRAMES;
-    if (frames_published(name) <= most)
+    if (seen.published[name] <= most)
         return;
     world.is_flooded = 1;
-    rule_broken(RULE_FLOOD, "s%u: %lu frames were published for %u texts", name, frames_published(name),
+    rule_broken(RULE_FLOOD, "s%u: %lu frames were published for %u texts", name, seen.published[name],
                 world.name[name].serials);
 }
 
 static void look_at_calls(void)
 {
-    unsigned long calls = statements_calls() - calls_before;
-    unsigned looks = frames_vain_looks();
-    calls_before += calls;
-    if (looks > VAIN_LOOKS)
-        rule_broken(RULE_SPINS, "a sender looked %u times for receipts in a second, and was never answered", looks);
-    if (calls <= CALLS)
+    int i;
+    for (i = SENDER; i < PARTIES; i++)
+        if (seen.second.answered[i] == 0 && seen.second.looks[i] > VAIN_LOOKS)
+            rule_broken(RULE_SPINS, "a sender looked %u times for receipts in a second, and was never answered",
+                        seen.second.looks[i]);
+    if (seen.second.calls <= CALLS)
         return;
-    rule_broken(RULE_SPINS, "%lu calls of SQL in a second", calls);
+    rule_broken(RULE_SPINS, "%lu calls of SQL in a second", seen.second.calls);
     world.is_flooded |= ++spinning > SPINNING;
 }
 
@@ -334,9 +319,9 @@ static void look_at_runs(unsigned name)
     if (poison != NULL && poison->name == name)
         return;
     for (i = 0; i < world.name[name].serials; i++)
-        if (effects_run(name, i) > most)
+        if (seen.runs[name][i] > most)
             rule_broken(RULE_REPEATED, "the effect of s%u text %u was run %u times, with %lu kills and faults, %lu by the"
-                        " watchdog", name, i, effects_run(name, i), causes, effects_watchdogs());
+                        " watchdog", name, i, seen.runs[name][i], causes, seen.watchdogs);
 }
 
 /* ---- What is known of a calm run */
@@ -345,9 +330,9 @@ static void look_at_repeats(unsigned name)
 {
     unsigned i, again = 0, most = has(KIND_SKEWED) ? AGAIN - 1 : AGAIN;
     for (i = 1; i < world.name[name].serials; i++) {
-        again += frames_left(name, i) > most;
-        if (frames_left(name, i) > TIMES)
-            rule_broken(RULE_FLOOD, "s%u: frame %u left %u times in a calm run", name, i, frames_left(name, i));
+        again += seen.left[name][i] > most;
+        if (seen.left[name][i] > TIMES)
+            rule_broken(RULE_FLOOD, "s%u: frame %u left %u times in a calm run", name, i, seen.left[name][i]);
     }
     if (again > MOST_AGAIN)
         rule_broken(RULE_FLOOD, "s%u: %u frames left more than %u times in a calm run", name, again, most);
@@ -367,11 +352,10 @@ static void look_at_stands(struct name *it, unsigned name)
 
 static void look_at_calm(void)
 {
-    unsigned name, receipts;
+    unsigned name;
     for (name = 0; name < world.names; name++) {
-        receipts = frames_receipts(name);
-        if (receipts > RECEIPTS)
-            rule_broken(RULE_CHATTER, "s%u has %u receipts in a second", name, receipts);
+        if (seen.second.receipts[name] > RECEIPTS)
+            rule_broken(RULE_CHATTER, "s%u has %u receipts in a second", name, seen.second.receipts[name]);
         look_at_repeats(name);
         look_at_stands(&world.name[name], name);
     }
@@ -379,8 +363,6 @@ static void look_at_calm(void)
 
 static int take_number(void *given, int count, char **values, char **names)
 {
-    (void)count;
-    (void)names;
     *(unsigned long *)given = values[0] != NULL ? strtoul(values[0], NULL, 10) : 0;
     return 0;
 }
@@ -407,11 +389,10 @@ static void look_at_rest(void)
 static void look_at_room(void)
 {
     unsigned i;
-    for (i = 0; i < SHARDS; i++) {
-        unsigned long number = frames_under_way(i);
-        if (has(KIND_MANY) && number > UNDER_WAY)
-            rule_broken(RULE_CROWDED, "%lu frames left for a shard in a second, and weren't confirmed", number);
-    }
+    for (i = 0; i < SHARDS && has(KIND_MANY); i++)
+        if (seen.second.under_way[i] > UNDER_WAY)
+            rule_broken(RULE_CROWDED, "%lu frames left for a shard in a second, and weren't confirmed",
+                        seen.second.under_way[i]);
 }
 
 /* ---- What is said of it */
@@ -419,23 +400,23 @@ static void look_at_room(void)
 static void look_at_health(void)
 {
     int has_had_time = !has_been_faulty() && now - world.resumes[SENDER] < SECOND;
-    if (said.nothing_confirmed > 0)
+    if (seen.nothing_confirmed > 0)
         rule_broken(RULE_AWAY, "the sender says that nothing is confirmed, by a carrier that works");
-    if (world.is_up[SENDER] && has_had_time && now > said.worked_at + UNHEALTHY * SECOND)
+    if (world.is_up[SENDER] && has_had_time && now > seen.worked_at + UNHEALTHY * SECOND)
         rule_broken(RULE_UNHEALTHY, "the sender hasn't been healthy for %d s, by a carrier that works", UNHEALTHY);
     unseen = world.full > 0 && world.is_up[SENDER] && !has_been_faulty() && !world.boxes[1].is_used ? unseen + 1 : 0;
     world.full = 0;
-    if (unseen > UNSEEN && said.waiting < 0.9 * said.bound)
-        rule_broken(RULE_FULL_UNSEEN, "the outbox refuses texts, and waiting_texts is %.0f of %.0f", said.waiting, said.bound);
+    if (unseen > UNSEEN && seen.waiting < 0.9 * seen.bound)
+        rule_broken(RULE_FULL_UNSEEN, "the outbox refuses texts, and waiting_texts is %.0f of %.0f", seen.waiting, seen.bound);
 }
 
 static void look_at_refused(void)
 {
     const struct poison *it = effects_first_poison();
-    unsigned runs = it != NULL ? effects_run(it->name, it->serial) : 0;
+    unsigned runs = it != NULL ? seen.runs[it->name][it->serial] : 0;
     if (it == NULL || it->until != UINT64_MAX || world.name[it->name].outcome[it->serial] != NOTHING_YET || runs <= TRIES)
         return;
-    if (said.refused == 0)
+    if (seen.refused == 0)
         rule_broken(RULE_UNNAMED, "s%u has a text that is refused, and no line of a receiver's log names it", it->name);
     if (has(KIND_ASIDE))
         rule_broken(RULE_NOT_ASIDE, "s%u has a text that was refused %u times, and isn't put aside", it->name, runs);
@@ -458,8 +439,9 @@ void rules_second(void)
     if (is_calm())
         look_at_calm();
     for (i = SENDER; i < PARTIES; i++)
-        if (party_bytes((int)i) > MOST_BYTES)
-            rule_broken(RULE_LEAKS, "program %u has %lu bytes", i, (unsigned long)party_bytes((int)i));
+        if (memory_of[i] > MOST_BYTES)
+            rule_broken(RULE_LEAKS, "program %u has %lu bytes", i, (unsigned long)memory_of[i]);
+    memset(&seen.second, 0, sizeof seen.second);
 }
 
 void rules_end(void)

@@ -1,5 +1,4 @@
 /* What the programs say: their log (--wrap), and the port service.h. */
-#include "kinds.h"
 #include "log.h"
 #include "ports.h"
 #include "service.h"
@@ -7,23 +6,11 @@
 #include <stdlib.h>
 #include <string.h>
 
-#pragma GCC diagnostic ignored "-Wunused-parameter"
-
 /* Seconds after a fault of the carrier, for which it may be said to be away; pauses grow while it is, up to 64 s. */
 enum { PATIENCE = 30, LONG_PATIENCE = 70 };
 
-void __real_log_fields(enum level level, const char *event, const struct field *fields);
-void __wrap_log_fields(enum level level, const char *event, const struct field *fields);
-void __real_log_report(const char *event, const struct field *fields);
-void __wrap_log_report(const char *event, const struct field *fields);
-
-struct said said;
+struct seen seen;
 static unsigned place_of_waiting, place_of_bound;
-
-void said_begin(void)
-{
-    said = (struct said){ .worked_at = now };
-}
 
 int has_been_faulty(void)
 {
@@ -43,18 +30,18 @@ static int names_refused(enum level level, const struct field *fields)
     return 0;
 }
 
-void __wrap_log_fields(enum level level, const char *event, const struct field *fields)
+WRAPPED(void, log_fields, enum level level, const char *event, const struct field *fields)
 {
     uint64_t before = moment();
-    said.nothing_confirmed += strcmp(event, "nothing_confirmed") == 0 && !has_been_faulty();
-    said.refused += (unsigned long)names_refused(level, fields);
+    seen.nothing_confirmed += strcmp(event, "nothing_confirmed") == 0 && !has_been_faulty();
+    seen.refused += (unsigned long)names_refused(level, fields);
     if (getenv("SIMULATION_LOG") == NULL)
         return;
     __real_log_fields(level, event, fields);
     spend(before - moment()); /* what it prints takes no time, so that the run stays the same */
 }
 
-void __wrap_log_report(const char *event, const struct field *fields)
+WRAPPED(void, log_report, const char *event, const struct field *fields)
 {
     uint64_t before = moment();
     if (getenv("SIMULATION_LOG") == NULL)
@@ -84,9 +71,9 @@ void service_alive(unsigned part, int does_work, const char *labels, const doubl
     if (running != SENDER || part != 0)
         return;
     if (does_work || has_been_faulty())
-        said.worked_at = now;
-    said.waiting = values[place_of_waiting];
-    said.bound = values[place_of_bound];
+        seen.worked_at = now;
+    seen.waiting = values[place_of_waiting];
+    seen.bound = values[place_of_bound];
 }
 
 int service_listen(const char *where)
@@ -94,36 +81,11 @@ int service_listen(const char *where)
     return 0;
 }
 
-void service_allow(unsigned part, unsigned seconds)
-{
-    (void)part;
-    (void)seconds;
-}
-
-void service_expect(unsigned part)
-{
-}
-
-void service_leave(unsigned part)
-{
-}
-
-void service_name(unsigned part, const char *const *names, size_t count)
-{
-}
-
-void service_tell_ready(void)
-{
-}
-
-void service_tell_alive(void)
-{
-}
-
-void service_tell_end(void)
-{
-}
-
-void service_end(void)
-{
-}
+void service_allow(unsigned part, unsigned seconds) { }
+void service_expect(unsigned part) { }
+void service_leave(unsigned part) { }
+void service_name(unsigned part, const char *const *names, size_t count) { }
+void service_tell_ready(void) { }
+void service_tell_alive(void) { }
+void service_tell_end(void) { }
+void service_end(void) { }

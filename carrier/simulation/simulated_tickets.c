@@ -3,15 +3,12 @@
  * At times no ticket can be had, and the keytab can't be read. */
 #include "at_rest.h"
 #include "clock.h"
-#include "kinds.h"
 #include "ports.h"
 #include "tickets.h"
 
 #include <stdio.h>
 #include <stdlib.h>
 #include <string.h>
-
-#pragma GCC diagnostic ignored "-Wunused-parameter"
 
 enum { FIRST_BYTE = 0x6e, DIGEST = 8, LIFE = 3600, READABLE = 4 };
 

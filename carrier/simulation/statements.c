@@ -1,6 +1,4 @@
 /* In the place of the calls of SQLite (--wrap): they fail as drawn, also after what they did, or the party is killed. */
-#include "statements.h"
-#include "kinds.h"
 #include "ports.h"
 
 #include <sqlite3.h>
@@ -12,33 +10,14 @@ enum { DATABASES = 8, SEEN = 96, SEEN_LENGTH = 100 };
 #define BUSY (10 * SECOND)     /* that a call waits for a file that is locked */
 
 typedef int each_row(void *given, int count, char **values, char **names);
-int __real_sqlite3_step(sqlite3_stmt *it);
-int __wrap_sqlite3_step(sqlite3_stmt *it);
-int __real_sqlite3_exec(sqlite3 *db, const char *sql, each_row *take, void *given, char **error);
-int __wrap_sqlite3_exec(sqlite3 *db, const char *sql, each_row *take, void *given, char **error);
-int __real_sqlite3_prepare_v2(sqlite3 *db, const char *sql, int len, sqlite3_stmt **to, const char **rest);
-int __wrap_sqlite3_prepare_v2(sqlite3 *db, const char *sql, int len, sqlite3_stmt **to, const char **rest);
-int __real_sqlite3_open_v2(const char *path, sqlite3 **db, int flags, const char *vfs);
-int __wrap_sqlite3_open_v2(const char *path, sqlite3 **db, int flags, const char *vfs);
 int __real_sqlite3_close(sqlite3 *db);
-int __wrap_sqlite3_close(sqlite3 *db);
-int __real_sqlite3_errcode(sqlite3 *db);
-int __wrap_sqlite3_errcode(sqlite3 *db);
-const char *__real_sqlite3_errmsg(sqlite3 *db);
-const char *__wrap_sqlite3_errmsg(sqlite3 *db);
 
 /* What each party has open, and with which code its last call failed by a fault of these; 0: by none. */
 static struct open { sqlite3 *db; int code; } opened[PARTIES][DATABASES];
 
 /* The statements that were seen, of senders and of receivers. */
-static char seen[2][SEEN][SEEN_LENGTH];
-static unsigned seen_count[2];
-static unsigned long calls;
-
-unsigned long statements_calls(void)
-{
-    return calls;
-}
+static char texts[2][SEEN][SEEN_LENGTH];
+static unsigned text_count[2];
 
 /* ---- What is open */
 
@@ -72,18 +51,18 @@ void statements_close(int party)
 
 const char *statements_one(int of_receivers, unsigned which)
 {
-    return seen_count[of_receivers] > 0 ? seen[of_receivers][which % seen_count[of_receivers]] : "";
+    return text_count[of_receivers] > 0 ? texts[of_receivers][which % text_count[of_receivers]] : "";
 }
 
 static void see(const char *sql)
 {
     int of = !is_sender(running);
     unsigned i;
-    for (i = 0; i < seen_count[of]; i++)
-        if (strncmp(seen[of][i], sql, SEEN_LENGTH - 1) == 0)
+    for (i = 0; i < text_count[of]; i++)
+        if (strncmp(texts[of][i], sql, SEEN_LENGTH - 1) == 0)
             return;
-    if (seen_count[of] < SEEN && strncmp(sql, "CREATE", 6) != 0)
-        (void)snprintf(seen[of][seen_count[of]++], SEEN_LENGTH, "%s", sql); /* a long one is cut */
+    if (text_count[of] < SEEN && strncmp(sql, "CREATE", 6) != 0)
+        (void)snprintf(texts[of][text_count[of]++], SEEN_LENGTH, "%s", sql); /* a long one is cut */
 }
 
 /* ---- Faults */
@@ -121,7 +100,7 @@ static int failure_of(sqlite3 *db, const char *sql)
     open_of(db)->code = 0;
     if (running == WORLD || sql == NULL || strncmp(sql, "ROLLBACK", 8) == 0)
         return 0;
-    calls++;
+    seen.second.calls++;
     spend(COST);
     see(sql);
     port_is_killed();
@@ -135,14 +114,14 @@ static int failure_of(sqlite3 *db, const char *sql)
 
 /* ---- The calls */
 
-int __wrap_sqlite3_step(sqlite3_stmt *it)
+WRAPPED(int, sqlite3_step, sqlite3_stmt *it)
 {
     int code = failure_of(sqlite3_db_handle(it), sqlite3_sql(it));
     return code != 0 ? code : __real_sqlite3_step(it);
 }
 
 /* A commit may have taken effect, and nobody hears of it, or hears that it has not. */
-int __wrap_sqlite3_exec(sqlite3 *db, const char *sql, each_row *take, void *given, char **error)
+WRAPPED(int, sqlite3_exec, sqlite3 *db, const char *sql, each_row *take, void *given, char **error)
 {
     enum kind unknown = is_sender(running) ? KIND_OUTBOX_UNKNOWN : KIND_STORE_UNKNOWN;
     int code = failure_of(db, sql), answer;
@@ -157,7 +136,7 @@ int __wrap_sqlite3_exec(sqlite3 *db, const char *sql, each_row *take, void *give
     return has(unknown) && is_drawn(faults.unknown) ? fail(db, SQLITE_IOERR, unknown) : answer;
 }
 
-int __wrap_sqlite3_prepare_v2(sqlite3 *db, const char *sql, int len, sqlite3_stmt **to, const char **rest)
+WRAPPED(int, sqlite3_prepare_v2, sqlite3 *db, const char *sql, int len, sqlite3_stmt **to, const char **rest)
 {
     open_of(db)->code = 0;
     if (running == WORLD || !is_drawn(faults.database))
@@ -166,7 +145,7 @@ int __wrap_sqlite3_prepare_v2(sqlite3 *db, const char *sql, int len, sqlite3_stm
     return fail(db, SQLITE_NOMEM, KIND_DATABASE);
 }
 
-int __wrap_sqlite3_open_v2(const char *path, sqlite3 **db, int flags, const char *vfs)
+WRAPPED(int, sqlite3_open_v2, const char *path, sqlite3 **db, int flags, const char *vfs)
 {
     int answer = __real_sqlite3_open_v2(path, db, flags, vfs);
     unsigned i = 0;
@@ -177,7 +156,7 @@ int __wrap_sqlite3_open_v2(const char *path, sqlite3 **db, int flags, const char
     return answer;
 }
 
-int __wrap_sqlite3_close(sqlite3 *db)
+WRAPPED(int, sqlite3_close, sqlite3 *db)
 {
     struct open *it = open_of(db);
     int answer = __real_sqlite3_close(db);
@@ -186,13 +165,13 @@ int __wrap_sqlite3_close(sqlite3 *db)
     return answer;
 }
 
-int __wrap_sqlite3_errcode(sqlite3 *db)
+WRAPPED(int, sqlite3_errcode, sqlite3 *db)
 {
     int code = open_of(db)->code;
     return code != 0 ? code : __real_sqlite3_errcode(db);
 }
 
-const char *__wrap_sqlite3_errmsg(sqlite3 *db)
+WRAPPED(const char *, sqlite3_errmsg, sqlite3 *db)
 {
     return open_of(db)->code != 0 ? "a simulated fault" : __real_sqlite3_errmsg(db);
 }

@@ -2,7 +2,6 @@
 #ifndef WORLD_H
 #define WORLD_H
 
-#include "kinds.h"
 #include "ports.h"
 
 #include <sqlite3.h>
@@ -90,7 +89,7 @@ void ends_stop(int party, int is_clean, uint64_t moment);
 void ends_write_sessions(void);
 void ends_use_sessions(unsigned within); /* receivers use the file as it is now, each within so many milliseconds */
 int has_one_store(void);                 /* for all shards */
-uint64_t ends_next(void);
+uint64_t ends_next(void);                /* when a program has its next step: a millisecond later, at least */
 
 /* Something comes for a party at this moment: it waits no longer than a moment after that, or a second where it isn't told. */
 void ends_wake(int party, uint64_t at);
