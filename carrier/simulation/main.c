@@ -1,5 +1,4 @@
 /* Runs seeds, one after the other. `usage` says how it is called. */
-#include "engine.h"
 #include "world.h"
 
 #include <stdio.h>
@@ -20,7 +19,7 @@ static const char usage[] =
     "  BESIDES  kinds of which each seed draws none to two besides\n"
     "It prints a line for each rule that a seed breaks, and the command that repeats it; then how often\n"
     "each kind of fault happened. The variable SIMULATION_LOG has the programs log, and SIMULATION_PLANT\n"
-    "names a fault that is planted (engine.h). Status: 1 if a seed fails.\n";
+    "names a fault that is planted (engine.c). Status: 1 if a seed fails.\n";
 
 struct world world;
 struct faults faults;

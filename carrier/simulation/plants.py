@@ -1,23 +1,27 @@
-"""Faults that are planted in the shipped programs, beside carrier/tests/mutants.py: in each edit the file, the text
-that stands there once, and what takes its place. Those around the calls of krb_engine are engine.h's."""
+"""Faults that are planted in the shipped programs, beside carrier/tests/mutants.py, and around the calls of krb_engine
+(engine.c). Each of the programs has its edits: the file, the text that stands there once, and what takes its place."""
 
-EDITS = {
-    "digests aren't compared": [("sender_receipts.c", "own->is_known ? KRBRELAY_OWN_KNOWN : KRBRELAY_OWN_UNKNOWN",
-      "KRBRELAY_OWN_UNKNOWN")],
-    "a receipt above the next number is no receipt": [("sender_receipts.c", "RECEIPT_NONE",
-      "RECEIPT_NONE || (read == RECEIPT_READ && receipt.n > it->end.progress.next)")],
-    "receipts leave before the commit": [("shard_transaction.c", """\
+# Which profile, seed and rule finds each.
+FOUND = {
+    "digests aren't compared": ("forked+killed", 1, "LOST",
+        ("sender_receipts.c", "own->is_known ? KRBRELAY_OWN_KNOWN : KRBRELAY_OWN_UNKNOWN", "KRBRELAY_OWN_UNKNOWN")),
+    "a receipt above the next number is no receipt": ("restored", 1, "LEFT_OUT", ("sender_receipts.c", "RECEIPT_NONE",
+         "RECEIPT_NONE || (read == RECEIPT_READ && receipt.n > it->end.progress.next)")),
+    "receipts leave before the commit": ("uncommitted", 6, "LOST", ("shard_transaction.c", """\
         answer = s->store->commit""", """\
         answer = krbrelay_shard_stored(&s->ends) != KRBRELAY_OK;
     shard_pay(s);
     if (answer == 0)
-        answer = s->store->commit""")],
-    "what was dropped stays": [("shard_transaction.c", "return answer > 0 ? KRBRELAY_FAILURE_FENCED : fault_of(s)",
-      "answer = 0")],
-    "an early frame is taken for nobody's": [("shard.c", "if (opens)", "if (opens && number <= of->drafted.number)")],
-    "a repeat is taken for nobody's": [("shard.c", "if (opens)", "if (opens && number >= of->drafted.number)")],
-    "a refused frame is taken for nobody's": [("shard.c", "if (opens)", "if (opens && number != of->drafted.number)")],
-    "a frame is accepted at any number": [("shard.c", "taken =", """\
+        answer = s->store->commit""")),
+    "what was dropped stays": ("uncommitted", 1, "LOST",
+        ("shard_transaction.c", "return answer > 0 ? KRBRELAY_FAILURE_FENCED : fault_of(s)", "answer = 0")),
+    "an early frame is taken for nobody's": ("cut", 1, "STANDS",
+        ("shard.c", "if (opens)", "if (opens && number <= of->drafted.number)")),
+    "a repeat is taken for nobody's": ("lost+killed", 19, "STANDS",
+        ("shard.c", "if (opens)", "if (opens && number >= of->drafted.number)")),
+    "a refused frame is taken for nobody's": ("skewed", 2, "UNTRUE",
+        ("shard.c", "if (opens)", "if (opens && number != of->drafted.number)")),
+    "a frame is accepted at any number": ("lost", 1, "OVERTAKEN", ("shard.c", "taken =", """\
 taken = &s->together.taken[place - s->together.first];
     if (taken->answer == KRBRELAY_BADORDER && taken->number != UINT64_MAX && taken->number > of->drafted.number) {
         of->drafted.number = taken->number;
@@ -27,112 +31,74 @@ taken = &s->together.taken[place - s->together.first];
             return EFFECT_FAULT;
         take_together(s, of, place, end);
     }
-    taken =""")],
-    "one item in a read is skipped": [("shard.c", "s->fetched =", """\
+    taken =""")),
+    "one item in a read is skipped": ("calm", 1, "LATE", ("shard.c", "s->fetched =", """\
 for (int i = 1; i < count; i++)
         s->frames[i - 1] = s->frames[i];
     count -= count > 1;
-    s->fetched =""")],
-    "another list is read from where the last one was": [("shard_load.c", "s->reading.read.offset);\n    s->next", """\
-s->reading.stored.list != list && end >= s->reading.stored.offset ? s->reading.stored.offset
-                                                                                           : s->reading.read.offset);
-    s->next""")],
-    "the session before is looked for once": [("shard_load.c", "|| it->drafted.number == it->of.first ?", "?")],
-    "the session before isn't compared": [
-        ("shard.c", "note_changed(s, before)", "before->is_changed = before->is_changed")],
-    "a second session after one is stored": [("shard_open.c", """\
+    s->fetched =""")),
+    "the session before is looked for once": ("tickets+keys", 19, "STANDS",
+        ("shard_load.c", "|| it->drafted.number == it->of.first ?", "?")),
+    "a second session after one is stored": ("forked+tickets+keys", 1, "DOUBLED", ("shard_open.c", """\
 OPENING_FORKED;
     }
     return kept_judge(s->store, it)""", """\
 OPENING_OK;
     }
-    return OPENING_OK"""),
-        ("store.c", "client,", "name, client,")],
-    "rows aren't compared": [("sqlite_store.c", """\
+    return OPENING_OK"""), ("store.c", "client,", "name, client,")),
+    "rows aren't compared": ("moved+stopped+bursts", 23, "DOUBLED", ("sqlite_store.c", """\
 next = ?7 AND closed = ?8 AND missed = ?9 AND at = ?10"
                       " AND shard = ?11""", """\
 ?7 IS NOT NULL AND ?8 IS NOT NULL AND ?9 IS NOT NULL"
-                      " AND ?10 IS NOT NULL AND ?11 IS NOT NULL""")],
-    "offsets aren't compared": [
-        ("sqlite_store.c", "incarnation = ?2 AND offset = ?3", "?2 IS NOT NULL AND ?3 IS NOT NULL")],
-    "frames leave before they are stored": [("sender.c", "SEAL_OK && outbox_commit", """\
+                      " AND ?10 IS NOT NULL AND ?11 IS NOT NULL""")),
+    "frames leave before they are stored": ("uncommitted", 1, "STANDS", ("sender.c", "SEAL_OK && outbox_commit", """\
 SEAL_OK && outbox_insert(&s->outbox) == 0) {
         note_kept(s);
         (void)publish_all(s);
     }
-    if (answer == SEAL_OK && outbox_commit""")],
-    "after a fault of the outbox nothing is loaded again": [
-        ("sender.c", "answer == SEAL_OK; /* the commit may have happened */", "0;")],
-    "an outbox takes transactions of two senders": [
-        ("outbox.c", "turn ==", "turn >="), ("outbox.c", "AND next = ?3", "AND ?3 IS NOT NULL")],
-    "an opening leaves before the session before is carried": [
-        ("publish.c", "!tickets_have(s->tickets) || sender_is_after(s, it)", "!tickets_have(s->tickets)")],
-    "a failed text is put aside at once": [("effects.c", "times >= chosen.tries;", "times > 0;")],
-    "a failed text is never put aside": [("effects.c", "times >= chosen.tries;", "times > 1000 + chosen.tries;")],
-    "a session is forgotten before the next one has begun": [("outbox.c", """\
+    if (answer == SEAL_OK && outbox_commit""")),
+    "after a fault of the outbox nothing is loaded again": ("outbox_unknown", 2, "UNTOLD",
+        ("sender.c", "answer == SEAL_OK; /* the commit may have happened */", "0;")),
+    "an outbox takes transactions of two senders": ("taken_over", 1, "UNTRUE", ("outbox.c", "turn ==", "turn >="),
+        ("outbox.c", "AND next = ?3", "AND ?3 IS NOT NULL")),
+    "what was told is forgotten where a key is tried again": ("forked+tickets+keys", 4, "UNTOLD",
+        ("sender_sessions.c", " && it->stopped_at == 0", "")),
+    "a failed text is put aside at once": ("refused_a_while+aside", 2, "ASIDE_EARLY",
+        ("effects.c", "times >= chosen.tries;", "times > 0;")),
+    "a failed text is never put aside": ("refused+aside", 1, "NOT_ASIDE",
+        ("effects.c", "times >= chosen.tries;", "times > 1000 + chosen.tries;")),
+    "a session is forgotten before the next one has begun": ("tickets+killed+carrier", 14, "STANDS", ("outbox.c", """\
 - 1 AND NOT EXISTS"
                       " (SELECT 1 FROM opened AS near JOIN frame ON frame.session = near.name"
-                      " WHERE near.stream = ?1 AND near.turn IN (opened.turn, opened.turn + 1)) LIMIT""", "LIMIT")],
-    "what was told is forgotten where a key is tried again": [("sender_sessions.c", " && it->stopped_at == 0", "")],
-    "a receiver idles for some minutes": [("shard.c", "look_at_store(s)", """\
+                      " WHERE near.stream = ?1 AND near.turn IN (opened.turn, opened.turn + 1)) LIMIT""", "LIMIT")),
+    "a receiver idles for some minutes": ("lost", 1, "LATE", ("shard.c", "look_at_store(s)", """\
 if (nanoseconds() > 30 * SECOND && nanoseconds() < 500 * SECOND) {
         s->rests = milliseconds() + WAIT;
         return 0;
     }
-    look_at_store(s)""")],
-    "a sender has no round each second": [
-        ("sender.c", "earlier(next, (s->looked + SECOND) / MILLISECOND + 1)", "next")],
-    "sessions' turns are no reason to wake": [
-        ("sender.c", "earlier(publish_next_time(s), receipts_next_time(s))", "receipts_next_time(s)")],
+    look_at_store(s)""")),
+    "a sender has no round each second": ("later", 1, "UNHEALTHY",
+        ("sender.c", "earlier(next, (s->looked + SECOND) / MILLISECOND + 1)", "next")),
     # What is never deleted.
-    "frames that are done stay": [("sender.c", "outbox_drop_done", "now.done == 0 && outbox_drop_done")],
-    "sessions that have ended stay": [("sender.c", "outbox_forget_ended(&s->outbox, it->begun, &s->ended) != 0",
-      "(it->begun->turn == 0 && outbox_forget_ended(&s->outbox, it->begun, &s->ended) != 0)")],
-    "receipts of sessions that have ended stay": [("sender.c", "ended.count;", "ended.count && s->carrier == NULL;")],
-    "owed receipts are dropped where the carrier is away": [("shard_receipts.c", "for (i = 0; i < some.count &&", """\
-some.count = 0;
-        for (i = 0; i < some.count &&""")],
-    "numbers aren't compared beside the owner": [("outbox.c", "AND next = ?3", "AND ?3 IS NOT NULL")],
-}
-
-# Which profile, seed and rule finds each, also those of engine.h.
-FOUND = {
-    "digests aren't compared": ("forked+killed", 1, "LOST"),
-    "a receipt above the next number is no receipt": ("restored", 1, "LEFT_OUT"),
-    "receipts leave before the commit": ("uncommitted", 6, "LOST"),
-    "what was dropped stays": ("uncommitted", 1, "LOST"),
-    "an early frame is taken for nobody's": ("cut", 1, "STANDS"),
-    "a repeat is taken for nobody's": ("lost+killed", 19, "STANDS"),
-    "a refused frame is taken for nobody's": ("skewed", 2, "UNTRUE"),
-    "a frame is accepted at any number": ("lost", 1, "OVERTAKEN"),
-    "one item in a read is skipped": ("calm", 1, "LATE"),
-    "the session before is looked for once": ("tickets+keys", 19, "STANDS"),
-    "a second session after one is stored": ("forked+tickets+keys", 1, "DOUBLED"),
-    "rows aren't compared": ("moved+stopped+bursts", 23, "DOUBLED"),
-    "frames leave before they are stored": ("uncommitted", 1, "STANDS"),
-    "after a fault of the outbox nothing is loaded again": ("outbox_unknown", 2, "UNTOLD"),
-    "an outbox takes transactions of two senders": ("taken_over", 1, "UNTRUE"),
-    "what was told is forgotten where a key is tried again": ("forked+tickets+keys", 4, "UNTOLD"),
-    "a failed text is put aside at once": ("refused_a_while+aside", 2, "ASIDE_EARLY"),
-    "a failed text is never put aside": ("refused+aside", 1, "NOT_ASIDE"),
-    "a session is forgotten before the next one has begun": ("tickets+killed+carrier", 14, "STANDS"),
-    "a receiver idles for some minutes": ("lost", 1, "LATE"),
-    "a sender has no round each second": ("later", 1, "UNHEALTHY"),
-    "frames that are done stay": ("calm", 1, "KEPT"),
-    "sessions that have ended stay": ("calm+tickets", 2, "KEPT"),
-    "receipts of sessions that have ended stay": ("calm+tickets", 2, "KEPT"),
+    "frames that are done stay": ("calm", 1, "KEPT",
+        ("sender.c", "outbox_drop_done", "now.done == 0 && outbox_drop_done")),
+    "sessions that have ended stay": ("calm+tickets", 2, "KEPT",
+        ("sender.c", "outbox_forget_ended(&s->outbox, it->begun, &s->ended) != 0",
+         "(it->begun->turn == 0 && outbox_forget_ended(&s->outbox, it->begun, &s->ended) != 0)")),
+    "receipts of sessions that have ended stay": ("calm+tickets", 2, "KEPT",
+        ("sender.c", "ended.count;", "ended.count && s->carrier == NULL;")),
     "a probe never has the opening": ("tickets+keys", 1, "STANDS"),
     "pauses don't grow": ("silent", 1, "FLOOD"),
     "last in, first out": ("many+carrier", 1, "UNFAIR"),
     "a list that was cut off is waited for": ("cut", 5, "STANDS"),
     "an opening is taken on any history": ("forked+killed+tickets", 1, "OVERTAKEN"),
-    "an opening is taken before the close before it": ("cut+killed+slow+tickets", 1, "OVERTAKEN"),
-    "another session of a turn that was had begins": ("cut+killed+slow+tickets", 3, "OVERTAKEN"),
+    "an opening is taken before the close before it": ("cut+killed+slow+tickets", 63, "OVERTAKEN"),
+    "another session of a turn that was had begins": ("cut+killed+slow+tickets", 41, "OVERTAKEN"),
     "the window stays after a silence": ("silent+bursts", 2, "FLOOD"),
     "a refused frame isn't held": ("skewed", 3, "UNTRUE"),
     "the pause of asks doesn't grow": ("skewed", 1, "FLOOD"),
-    "the first probe comes after 300 s": ("calm", 2, "UNTRUE"),
-    "the first repeat comes after 64 s": ("calm", 2, "LATE"),
+    "the first probe comes after 300 s": ("later", 1, "STANDS"),
+    "the first repeat comes after 64 s": ("calm", 1, "LATE"),
     "one frame is under way at most": ("calm+bursts", 2, "LATE"),
     "a shard has no bound": ("many+silent", 1, "CROWDED"),
     "receipts have no pause between them": ("calm+bursts", 1, "CHATTER"),
@@ -145,24 +111,38 @@ MADE_UP = {
     "confirmed counts out of order": (
         "the receiver misses the frame and asks for it", ("lost+killed", "carrier+killed", "lost+tickets", "calm")),
     "a confirmation counts at any offset": (
-        "the receiver misses the frame and asks for it", ("lost+killed", "carrier+killed", "cut+deleted+lost", "calm")),
+        "the receiver misses the frame and asks for it", ("cut", "cut+killed", "cut+deleted+lost", "cut+stopped")),
     "another list: goes on at what was carried": (
-        "the receiver misses the frame and asks for it", ("deleted", "deleted+tickets", "cut+deleted", "moved")),
+        "the receiver misses the frame and asks for it",
+        ("deleted+stopped", "deleted+lost+killed", "cut+deleted", "cut+deleted+stopped")),
     "another list is read from where the last one was": (
         "the receiver misses the frame and asks for it",
-        ("deleted", "deleted+tickets", "cut+deleted", "deleted+killed+purged")),
+        ("deleted", "deleted+tickets", "cut+deleted", "deleted+killed+purged"),
+        ("shard_load.c", "s->reading.read.offset);\n    s->next", """\
+s->reading.stored.list != list && end >= s->reading.stored.offset ? s->reading.stored.offset
+                                                                                           : s->reading.read.offset);
+    s->next""")),
     "an opening leaves before the session before is carried": (
         "a receiver takes it for one of a later turn, which has to come again",
-        ("calm+tickets", "tickets+killed", "keys+tickets", "tickets+killed+carrier")),
+        ("calm+tickets", "tickets+killed", "keys+tickets", "tickets+killed+carrier"),
+        ("publish.c", "!tickets_have(s->tickets) || sender_is_after(s, it)", "!tickets_have(s->tickets)")),
     "offsets aren't compared": (
         "rows are: each frame that is accepted changes one",
-        ("carrier+killed+lost", "lost+stopped", "killed+slow", "bursts+stopped")),
+        ("carrier+killed+lost", "lost+stopped", "killed+slow", "bursts+stopped"),
+        ("sqlite_store.c", "incarnation = ?2 AND offset = ?3", "?2 IS NOT NULL AND ?3 IS NOT NULL")),
     "the session before isn't compared": (
         "only receivers of its shard go on with it, and each moves the shard's offset, which is compared",
-        ("lost+tickets", "keys+tickets", "cut+killed+slow+tickets", "copied+stopped+tickets")),
+        ("lost+tickets", "keys+tickets", "cut+killed+slow+tickets", "copied+stopped+tickets"),
+        ("shard.c", "note_changed(s, before)", "before->is_changed = before->is_changed")),
     "owed receipts are dropped where the carrier is away": (
-        "the sender probes, and a repeat owes one", ("carrier", "carrier+killed", "bursts+carrier", "carrier+lost")),
-    "sessions' turns are no reason to wake": ("a round comes each second", ("calm", "lost", "cut", "skewed")),
+        "the sender probes, and a repeat owes one", ("carrier", "carrier+killed", "bursts+carrier", "carrier+lost"),
+        ("shard_receipts.c", "for (i = 0; i < some.count &&", """\
+some.count = 0;
+        for (i = 0; i < some.count &&""")),
+    "sessions' turns are no reason to wake": (
+        "a round comes each second", ("calm", "lost", "cut", "skewed"),
+        ("sender.c", "earlier(publish_next_time(s), receipts_next_time(s))", "receipts_next_time(s)")),
     "numbers aren't compared beside the owner": (
-        "the owner is", ("taken_over", "killed+taken_over", "outbox_unknown", "stopped+taken_over")),
+        "the owner is", ("taken_over", "killed+taken_over", "outbox_unknown", "stopped+taken_over"),
+        ("outbox.c", "AND next = ?3", "AND ?3 IS NOT NULL")),
 }

@@ -129,6 +129,10 @@ void frames_cut(unsigned shard, unsigned count);
 void frames_purge(void);
 unsigned frames_receipts_kept(unsigned name);
 
+/* ---- The engine (engine.c): this run has the planted fault of this name. 0 if there is none. */
+
+int engine_plant(const char *text);
+
 /* ---- Effects (refusing.c) */
 
 struct poison { unsigned name, serial; int is_error; uint64_t until; };

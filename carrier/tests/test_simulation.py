@@ -71,14 +71,14 @@ def test_each_mutant_is_in_the_table():
 
 
 def test_each_planted_fault_is_in_a_table():
-    engine = simulate.engine_plants()
-    assert len(engine) >= 20 and set(engine) | set(plants.EDITS) == set(plants.FOUND) | set(plants.MADE_UP)
+    engine, all_of_them = simulate.engine_plants(), plants.FOUND | plants.MADE_UP
+    assert len(engine) >= 20 and set(engine) == {name for name in all_of_them if not simulate.edits_of(name)}
     assert not set(plants.FOUND) & set(plants.MADE_UP)
 
 
 @pytest.mark.parametrize("name", profiles.MUTANTS | plants.FOUND)
 def test_a_mutant_is_found(program, name):
-    profile, seed, rule = (profiles.MUTANTS | plants.FOUND)[name]
+    profile, seed, rule, *_ = (profiles.MUTANTS | plants.FOUND)[name]
     assert simulate.finds_mutant(simulate.library(), name)
     assert rule not in simulate.breaks(program, profile, seed)
 
