@@ -92,26 +92,25 @@ void box_put_some(struct box *it)
     (void)box_run(it, "COMMIT", NULL, NULL);
 }
 
-void box_copy_marks(struct box *to, const struct box *from)
+void box_copy(struct box *to, const struct box *from)
 {
+    static const char *const files[] = { "", "-wal", "-shm" };
+    char path[PATHS + 8];
+    sqlite3_backup *it;
     unsigned i;
+    for (i = 0; i < sizeof files / sizeof *files; i++) {
+        (void)snprintf(path, sizeof path, "%s%s", to->path, files[i]);
+        (void)remove(path); /* it may not be there */
+    }
+    box_open(to);
+    it = sqlite3_backup_init(to->application, "main", from->application, "main");
+    must(it != NULL && sqlite3_backup_step(it, -1) == SQLITE_DONE, to->path);
+    (void)sqlite3_backup_finish(it); /* each step went well */
     for (i = 0; i < world.names; i++) {
         to->count[i] = to->own_from[i] = from->count[i];
         if (from->count[i] > 0)
             memcpy(room_of(to, i), from->marks[i], from->count[i] * sizeof *from->marks[i]);
     }
-}
-
-void box_copy_file(const struct box *from, const char *path)
-{
-    sqlite3 *db = NULL;
-    sqlite3_backup *it;
-    (void)remove(path); /* none may be there */
-    must(sqlite3_open(path, &db) == SQLITE_OK, path);
-    it = sqlite3_backup_init(db, "main", from->application, "main");
-    must(it != NULL && sqlite3_backup_step(it, -1) == SQLITE_DONE, path);
-    (void)sqlite3_backup_finish(it); /* each step went well */
-    (void)sqlite3_close(db); /* no statement is left */
 }
 
 int box_is_done(const struct box *it)

@@ -77,15 +77,10 @@ static struct kerberos_options kerberos(void)
 
 /* ---- A sender */
 
-static struct sender *sender_of(int party)
-{
-    return &senders[party - SENDER];
-}
-
 static void start_sender(int party)
 {
     const struct box *of = &world.boxes[has(KIND_FORKED) && party == SENDER_2];
-    struct sender *it = sender_of(party);
+    struct sender *it = &senders[party - SENDER];
     memset(it, 0, sizeof *it);
     it->options = (struct options){ .carrier = { .where = "memory", .replicas = 1 }, .kerberos = kerberos(),
                                     .life = has(KIND_TICKETS) ? LIFE : LONG_LIFE, .sessions = sessions_path,
@@ -96,7 +91,7 @@ static void start_sender(int party)
 static void step_sender(int party)
 {
     enum outbox_answer answer = OUTBOX_OK;
-    if (!sender_step(sender_of(party), &answer, &until) && answer >= 0)
+    if (!sender_step(&senders[party - SENDER], &answer, &until) && answer >= 0)
         return;
     world.is_up[party] = 0;
     world.was_taken[party - SENDER] = answer == OUTBOX_TAKEN;
@@ -104,7 +99,7 @@ static void step_sender(int party)
 
 static void stop_sender(int party)
 {
-    sender_close(sender_of(party));
+    sender_close(&senders[party - SENDER]);
 }
 
 /* ---- A receiver, which serves one shard */
@@ -230,17 +225,9 @@ int has_one_store(void)
     return has(KIND_MOVED) || has(KIND_COPIED);
 }
 
-/* With an effect that is refused one receiver alone serves a shard, so that its refusals are counted. */
-static int has_effects(void)
-{
-    return has(KIND_REFUSED_A_WHILE) || has(KIND_REFUSED) || has(KIND_REFUSED_MANY) || has(KIND_SLOW_EFFECTS);
-}
-
 static void choose_options(void)
 {
-    path_of(store, has_one_store() ? "store.db" : "store-%.db");
-    memmove(store + strlen("sqlite:"), store, strlen(store) + 1);
-    memcpy(store, "sqlite:", strlen("sqlite:"));
+    (void)snprintf(store, sizeof store, "sqlite:%s/%s", world.folder, has_one_store() ? "store.db" : "store-%.db");
     shards = (struct shard_options){ .store = store, .carrier = { .where = "memory", .replicas = 1 },
                                      .kerberos = kerberos(), .batch = has(KIND_SLOW_EFFECTS) ? LONG_BATCH : BATCH,
                                      .skew = has(KIND_CLOCK) || has(KIND_SKEWED) ? SKEW : LONG_SKEW };
@@ -249,11 +236,12 @@ static void choose_options(void)
 
 void ends_begin(void)
 {
-    int i;
+    /* With an effect that is refused one receiver alone serves a shard, so that its refusals are counted. */
+    int is_counted = has(KIND_REFUSED_A_WHILE) || has(KIND_REFUSED) || has(KIND_REFUSED_MANY) || has(KIND_SLOW_EFFECTS), i;
     path_of(sessions_path, "sessions");
     choose_options();
     for (i = SENDER; i < PARTIES; i++)
-        world.may_run[i] = i != SENDER_2 && !(has_effects() && i == RECEIVER + SHARDS);
+        world.may_run[i] = i != SENDER_2 && !(is_counted && i == RECEIVER + SHARDS);
     world.shown = has(KIND_LATER) ? world.names - 1 : 0;
     happened(KIND_LATER, has(KIND_LATER) != 0);
     ends_write_sessions();

@@ -19,15 +19,18 @@ enum {
 };
 #define NEVER UINT64_MAX
 
-/* How far sessions were when the outbox was copied. */
-static sqlite3_int64 next_of_copy[MOST_NAMES];
-
-/* ---- Chances of this second */
-
 static int is_between(unsigned from, unsigned until)
 {
     return world.second >= from && world.second < until;
 }
+
+/* Whether the second has this event of the kind. */
+static int is_time(enum kind kind, uint64_t second)
+{
+    return has(kind) && world.second == second;
+}
+
+/* ---- Chances of this second */
 
 /* The carrier fails at times. Where other kinds need that it is away, it is at their seconds. */
 static unsigned chance_of_carrier(void)
@@ -58,28 +61,15 @@ static void draw_chances(void)
     faults.memory = has(KIND_MEMORY) && drawn(3) == 0 ? 100 : 0;
     faults.killed = has(KIND_KILLED) && drawn(5) == 0 ? 20 : 0;
     faults.slow_effects = has(KIND_SLOW_EFFECTS) ? 400 : 0;
-}
-
-/* One frame, one confirmation, and the last receipts. */
-static void lose_one(void)
-{
-    if (!has(KIND_CALM))
-        return;
-    faults.loses_frame = world.second == LOST_FRAME;
-    faults.loses_confirmation = world.second == LOST_CONFIRMATION;
-    faults.loses_receipts = is_between(LOST_RECEIPTS, LOST_UNTIL);
-}
-
-static void be_silent(void)
-{
+    faults.loses_frame = is_time(KIND_CALM, LOST_FRAME);
+    faults.loses_confirmation = is_time(KIND_CALM, LOST_CONFIRMATION);
+    faults.loses_receipts = has(KIND_CALM) && is_between(LOST_RECEIPTS, LOST_UNTIL);
     faults.is_silent = has(KIND_SILENT) && is_between(SILENT_FROM, SILENT_UNTIL);
     if (faults.is_silent)
         faults.carrier_at = now;
 }
 
-/* ---- Streams */
-
-/* For some seconds no key can be read, or no ticket be had. */
+/* For some seconds no key of a stream can be read, or no ticket be had. */
 static void take_keys(void)
 {
     if (has(KIND_KEYS) && drawn(3) == 0)
@@ -116,28 +106,25 @@ static void strike_statement(void)
     strike(statement, of_receivers, times, drawn(2) ? drawn(1500) * MILLISECOND : NEVER);
 }
 
-static void strike_frames(void)
+/* A statement fails also where the world has just acted. */
+static void strike_some(void)
 {
+    if (faults.times > 0 && now >= faults.until)
+        faults.times = 0;
+    if (has(KIND_STATEMENT)
+        && ((faults.times == 0 && drawn(2) == 0) || world.second == FORKED || world.second == RESTORED))
+        strike_statement();
+    if (!has(KIND_UNREADABLE) || faults.times > 0 || drawn(2) != 0)
+        return;
     faults.is_unreadable = 1;
     faults.pass = 0;
     faults.code = drawn(2) ? SQLITE_IOERR : SQLITE_NOMEM;
     strike(" FROM frame", 0, UINT32_MAX, drawn(400) * MILLISECOND);
 }
 
-/* A statement fails also where the world has just acted. */
-static void strike_some(void)
-{
-    if (faults.times > 0 && now >= faults.until)
-        faults.times = 0;
-    if (has(KIND_STATEMENT) && ((faults.times == 0 && drawn(2) == 0) || world.second == FORKED || world.second == RESTORED))
-        strike_statement();
-    if (has(KIND_UNREADABLE) && faults.times == 0 && drawn(2) == 0)
-        strike_frames();
-}
-
 /* ---- Programs */
 
-static void stop_one(int party)
+static void kill_one(int party)
 {
     if (drawn(6) != 0 || !world.is_up[party])
         return;
@@ -157,13 +144,13 @@ static void hold_one(int party)
     ends_hold(party, now + drawn(6000) * MILLISECOND);
 }
 
-/* Receivers come back after a while: so receipts of a fork come late. */
-static void hold_receivers(void)
+/* They may run again at once, or come back after some seconds. */
+static void stop_receivers(unsigned seconds)
 {
     int party;
     for (party = RECEIVER; party < PARTIES; party++)
         if (world.is_up[party])
-            ends_stop(party, 1, now + 4 * SECOND + drawn(1000) * MILLISECOND);
+            ends_stop(party, 1, seconds > 0 ? now + seconds * SECOND + drawn(1000) * MILLISECOND : now);
 }
 
 /* With a bound, no receiver runs for a while, and the outbox becomes full. */
@@ -172,23 +159,21 @@ static void bound_outbox(void)
     int party;
     if (world.second != BOUNDED_FROM && world.second != BOUNDED_UNTIL)
         return;
-    for (party = RECEIVER; party < PARTIES; party++) {
-        if (world.is_up[party])
-            ends_stop(party, 1, now);
+    stop_receivers(0);
+    for (party = RECEIVER; party < PARTIES; party++)
         world.may_run[party] = world.second == BOUNDED_UNTIL;
-    }
 }
 
 static void stop_programs(void)
 {
     if (has(KIND_KILLED)) {
-        stop_one(SENDER);
-        stop_one(RECEIVER + (int)drawn(RECEIVERS));
+        kill_one(SENDER);
+        kill_one(RECEIVER + (int)drawn(RECEIVERS));
     }
     if (has(KIND_STOPPED) && drawn(2) == 0)
         hold_one(SENDER + (int)drawn(PARTIES - SENDER));
     if (has(KIND_FORKED) && has(KIND_KILLED) && is_between(FORKED, FORKED_UNTIL))
-        hold_receivers();
+        stop_receivers(4); /* so receipts of a fork come late */
     if (has(KIND_BOUNDED))
         bound_outbox();
 }
@@ -212,88 +197,53 @@ static void harm_carrier(void)
 
 /* ---- Copies of the outbox */
 
-static unsigned index_of(const char *session)
-{
-    unsigned name = name_of(session);
-    return name < world.names ? name : MOST_NAMES;
-}
+/* How far the sessions of each name are, and whether frames of them are there. */
+struct known { sqlite3_int64 next[MOST_NAMES]; char has_frames[MOST_NAMES]; };
+static struct known of_copy;
 
-static int take_next(void *given, int count, char **values, char **names)
+static int take_known(void *given, int count, char **values, char **names)
 {
-    if (index_of(values[0]) < MOST_NAMES)
-        ((sqlite3_int64 *)given)[index_of(values[0])] = atoll(values[1]);
+    struct known *known = given;
+    unsigned name = name_of(values[0]);
+    if (name < world.names && values[1] != NULL)
+        known->next[name] = atoll(values[1]);
+    else if (name < world.names)
+        known->has_frames[name] = 1;
     return 0;
 }
 
-static int take_sealed(void *given, int count, char **values, char **names)
+static void find_known(struct known *known)
 {
-    if (index_of(values[0]) < MOST_NAMES)
-        ((char *)given)[index_of(values[0])] = 1;
-    return 0;
-}
-
-static void find_next(sqlite3_int64 next[MOST_NAMES])
-{
-    memset(next, 0, MOST_NAMES * sizeof *next);
-    (void)box_run(&world.boxes[0], "SELECT name, next FROM session", take_next, next); /* it can be read */
-}
-
-static void find_sealed(char sealed[MOST_NAMES])
-{
-    memset(sealed, 0, MOST_NAMES);
-    (void)box_run(&world.boxes[0], "SELECT DISTINCT session FROM frame", take_sealed, sealed); /* it can be read */
-}
-
-static void copy_outbox(void)
-{
-    box_copy_file(&world.boxes[0], world.saved.path);
-    box_copy_marks(&world.saved, &world.boxes[0]);
-    find_next(next_of_copy);
-    world.saved.is_used = 1;
+    memset(known, 0, sizeof *known);
+    (void)box_run(&world.boxes[0], "SELECT name, next FROM session UNION ALL SELECT DISTINCT session, NULL FROM frame",
+                  take_known, known); /* it can be read */
 }
 
 /* A session that went on since the copy, of which all that left took effect and has its receipt, has to be stopped before a
  * text of the copy takes effect. */
-static void forbid(const sqlite3_int64 next[MOST_NAMES], const char sealed[MOST_NAMES])
+static void forbid(const struct known *known)
 {
     unsigned i;
     for (i = 0; i < world.names; i++) {
         struct name *it = &world.name[i];
-        if (next[i] <= next_of_copy[i] && !is_stream(i))
+        if (known->next[i] <= of_copy.next[i] && !is_stream(i))
             continue;
         it->has_advanced = it->is_struck = 1;
-        if (sealed[i] || !frames_receipts_kept(i) || is_stream(i))
-            continue;
-        it->is_forbidden = 1;
+        it->is_forbidden |= !known->has_frames[i] && frames_receipts_kept(i) > 0 && !is_stream(i);
         it->forbidden_from = it->serials;
     }
 }
 
-static void put_back(struct box *it)
-{
-    char path[PATHS + 8];
-    box_close(it);
-    (void)snprintf(path, sizeof path, "%s-wal", it->path);
-    (void)remove(path); /* it may not be there */
-    (void)snprintf(path, sizeof path, "%s-shm", it->path);
-    (void)remove(path);
-    if (rename(world.saved.path, it->path) != 0)
-        exit(2);
-    box_open(it);
-    box_copy_marks(it, &world.saved);
-    world.saved.is_used = 0;
-}
-
 static void restore_outbox(void)
 {
-    sqlite3_int64 next[MOST_NAMES];
-    char sealed[MOST_NAMES];
+    struct known known;
     happened(KIND_RESTORED, 1);
-    find_next(next);
-    find_sealed(sealed);
+    find_known(&known);
     ends_stop(SENDER, 1, now);
-    forbid(next, sealed);
-    put_back(&world.boxes[0]);
+    forbid(&known);
+    box_close(&world.boxes[0]);
+    box_copy(&world.boxes[0], &world.saved);
+    box_close(&world.saved);
 }
 
 static void start_second(void)
@@ -302,27 +252,23 @@ static void start_second(void)
     world.resumes[SENDER_2] = now;
 }
 
-static void fork_outbox(void)
-{
-    unsigned i;
-    happened(KIND_FORKED, 1);
-    box_copy_file(&world.boxes[0], world.boxes[1].path);
-    box_open(&world.boxes[1]);
-    box_copy_marks(&world.boxes[1], &world.boxes[0]);
-    start_second();
-    for (i = 0; i < world.names; i++)
-        world.name[i].is_struck = 1;
-}
-
 static void use_copies(void)
 {
-    if (has(KIND_RESTORED) && world.second == COPIED + world.seed % COPIED_WITHIN)
-        copy_outbox();
-    if (has(KIND_RESTORED) && world.saved.is_used && world.second == RESTORED)
+    unsigned i;
+    if (is_time(KIND_RESTORED, COPIED + world.seed % COPIED_WITHIN)) {
+        box_copy(&world.saved, &world.boxes[0]);
+        find_known(&of_copy);
+    }
+    if (is_time(KIND_RESTORED, RESTORED) && world.saved.is_used)
         restore_outbox();
-    if (has(KIND_FORKED) && world.second == FORKED)
-        fork_outbox();
-    if (has(KIND_TAKEN_OVER) && world.second == TAKEN_OVER) {
+    if (is_time(KIND_FORKED, FORKED)) {
+        happened(KIND_FORKED, 1);
+        box_copy(&world.boxes[1], &world.boxes[0]);
+        start_second();
+        for (i = 0; i < world.names; i++)
+            world.name[i].is_struck = 1;
+    }
+    if (is_time(KIND_TAKEN_OVER, TAKEN_OVER)) {
         happened(KIND_TAKEN_OVER, 1);
         start_second();
     }
@@ -355,30 +301,31 @@ static void change_sessions(void)
 
 /* ---- A row of the outbox */
 
-static void spoil_row(void)
+static void spoil_row(enum kind kind, const char *change)
 {
-    char sealed[MOST_NAMES], sql[STATEMENT];
+    struct known known;
+    char sql[STATEMENT];
     unsigned name = drawn(world.names), tries;
-    find_sealed(sealed);
-    for (tries = 0; tries < world.names && !sealed[name]; tries++)
+    find_known(&known);
+    for (tries = 0; tries < world.names && !known.has_frames[name]; tries++)
         name = (name + 1) % world.names;
-    if (!sealed[name])
-        return;
     (void)snprintf(sql, sizeof sql, "%s WHERE session = 's%u' AND number = (SELECT (min(number) + max(number)) / 2"
-                   " FROM frame WHERE session = 's%u')", has(KIND_ROW_GONE) ? "DELETE FROM frame"
-                   : "UPDATE frame SET frame = zeroblob(length(frame))", name, name);
-    if (box_run(&world.boxes[0], sql, NULL, NULL) != SQLITE_OK)
+                   " FROM frame WHERE session = 's%u')", change, name, name);
+    if (!known.has_frames[name] || box_run(&world.boxes[0], sql, NULL, NULL) != SQLITE_OK)
         return;
     world.name[name].is_struck = 1;
-    happened(has(KIND_ROW_GONE) ? KIND_ROW_GONE : KIND_ROW_SPOILT, 1);
+    happened(kind, 1);
 }
 
 static void spoil_rows(void)
 {
     unsigned i;
-    if ((!has(KIND_ROW_GONE) && !has(KIND_ROW_SPOILT)) || world.second != SPOILT)
+    if (is_time(KIND_ROW_GONE, SPOILT))
+        spoil_row(KIND_ROW_GONE, "DELETE FROM frame");
+    else if (is_time(KIND_ROW_SPOILT, SPOILT))
+        spoil_row(KIND_ROW_SPOILT, "UPDATE frame SET frame = zeroblob(length(frame))");
+    else
         return;
-    spoil_row();
     for (i = 0; has(KIND_DELETED) && i < SHARDS; i++)
         frames_delete(i);
 }
@@ -398,38 +345,27 @@ static void poison(unsigned name, unsigned count, int is_error, uint64_t until)
 
 static void refuse_texts(void)
 {
-    if (world.second != REFUSED_FROM)
-        return;
-    if (has(KIND_REFUSED_A_WHILE))
+    if (is_time(KIND_REFUSED_A_WHILE, REFUSED_FROM))
         poison(drawn(world.names), 1, (int)drawn(2), now + A_WHILE * SECOND);
-    if (has(KIND_REFUSED))
+    if (is_time(KIND_REFUSED, REFUSED_FROM))
         poison(drawn(world.names), 1, (int)drawn(2), NEVER);
-    if (has(KIND_REFUSED_MANY))
+    if (is_time(KIND_REFUSED_MANY, REFUSED_FROM))
         poison(drawn(world.names), POISONS, 0, NEVER);
 }
 
-/* Receivers refuse all frames until their clocks are right. */
-static void set_clocks_of_receivers(void)
-{
-    int i, is_wrong = is_between(SKEWED_FROM, SKEWED_UNTIL);
-    for (i = RECEIVER; i < PARTIES; i++)
-        faults.clock[i] = is_wrong ? HOURS : 0;
-    happened(KIND_SKEWED, is_wrong != 0);
-    if (is_wrong)
-        faults.carrier_at = now;
-}
-
-/* Frames that are sealed by a wrong clock are refused until it is right. */
+/* Receivers refuse all frames until their clocks are right; and what is sealed by a wrong clock, until it is right. */
 static void set_clocks(void)
 {
+    int is_skewed = has(KIND_SKEWED) && is_between(SKEWED_FROM, SKEWED_UNTIL), party;
+    int is_wrong = has(KIND_CLOCK) && is_between(CLOCK_FROM, CLOCK_UNTIL);
     unsigned i;
-    if (has(KIND_SKEWED))
-        set_clocks_of_receivers();
-    if (!has(KIND_CLOCK))
-        return;
-    faults.clock[SENDER] = is_between(CLOCK_FROM, CLOCK_UNTIL) ? HOURS : 0;
-    happened(KIND_CLOCK, is_between(CLOCK_FROM, CLOCK_UNTIL) != 0);
-    for (i = 0; world.second == CLOCK_FROM && i < world.names; i++)
+    for (party = SENDER; party < PARTIES; party++)
+        faults.clock[party] = (is_sender(party) ? is_wrong && party == SENDER : is_skewed) ? HOURS : 0;
+    happened(KIND_SKEWED, is_skewed != 0);
+    happened(KIND_CLOCK, is_wrong != 0);
+    if (is_skewed)
+        faults.carrier_at = now;
+    for (i = 0; is_time(KIND_CLOCK, CLOCK_FROM) && i < world.names; i++)
         world.name[i].is_struck = 1;
 }
 
@@ -437,13 +373,11 @@ static void set_clocks(void)
 
 void events_second(void)
 {
-    if (has(KIND_LATER) && world.second == world.disturbed + LATER_BY)
+    if (is_time(KIND_LATER, world.disturbed + LATER_BY))
         ends_use_sessions(0); /* which has the line that was missing */
     if (world.second >= world.disturbed)
         return;
     draw_chances();
-    lose_one();
-    be_silent();
     take_keys();
     strike_some();
     stop_programs();
@@ -458,11 +392,6 @@ void events_second(void)
 /* Effects that are slow stay so. What was counted and when frames couldn't leave last stays known. */
 void events_end(void)
 {
-    struct faults before = faults;
-    memset(&faults, 0, sizeof faults);
-    faults.slow_effects = before.slow_effects;
-    faults.carrier_at = before.carrier_at;
-    faults.injected = before.injected;
-    faults.of_stores = before.of_stores;
-    faults.is_over = 1;
+    faults = (struct faults){ .slow_effects = faults.slow_effects, .carrier_at = faults.carrier_at,
+                              .injected = faults.injected, .of_stores = faults.of_stores, .is_over = 1 };
 }

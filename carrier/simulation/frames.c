@@ -9,11 +9,8 @@
 enum { CONFIRMED_WITHIN = 50, WAIT = 10, FAIR_WAIT = 50, HAPPENS_ALL_THE_SAME = 4 };
 
 /* A frame in a shard, or a receipt, whose `turn` is above that of those before. */
-struct item { char session[CARRIER_NAME]; uint8_t *bytes; size_t len; unsigned shard; uint64_t turn; };
-struct items { struct item *at; size_t count, room; };
-struct shard_of_frames { struct items items; uint64_t incarnation; };
-static struct shard_of_frames shards[SHARDS];
-static struct items receipts;
+struct item { struct carried it; uint8_t *bytes; unsigned shard; uint64_t turn; };
+static struct items { struct item *at; size_t count, room; uint64_t incarnation; } shards[SHARDS], receipts;
 static uint64_t turns;
 
 /* A confirmation that is under way. */
@@ -41,27 +38,21 @@ static struct item *put(struct items *to, const char *session, const uint8_t *by
         to->at = realloc(to->at, to->room * sizeof *to->at);
     }
     it = &to->at[to->count++];
-    *it = (struct item){ .bytes = malloc(len + 1), .len = len };
-    memcpy(it->session, session, strlen(session) + 1);
+    *it = (struct item){ .bytes = malloc(len + 1) };
     memcpy(it->bytes, bytes, len);
+    it->it = (struct carried){ .offset = to->count, .frame = it->bytes, .len = len };
+    memcpy(it->it.session, session, strlen(session) + 1);
     running = before;
     return it;
 }
 
-/* A frame comes to those that serve the shard, a receipt to the senders. */
+/* A frame comes to those that serve the shard. */
 static void put_frame(unsigned shard, const char *session, const uint8_t *frame, size_t len)
 {
     unsigned i;
-    (void)put(&shards[shard].items, session, frame, len); /* the item: nothing more is said of it */
+    (void)put(&shards[shard], session, frame, len); /* the item: nothing more is said of it */
     for (i = shard; has_file() && i < RECEIVERS; i += SHARDS)
         ends_wake(RECEIVER + (int)i, moment());
-}
-
-static void wake_senders(void)
-{
-    int party;
-    for (party = SENDER; has_file() && party < SENDER + SENDERS; party++)
-        ends_wake(party, moment());
 }
 
 static void cut(struct items *it, size_t count)
@@ -79,14 +70,14 @@ void frames_begin(void)
 
 void frames_delete(unsigned shard)
 {
-    cut(&shards[shard].items, shards[shard].items.count);
+    cut(&shards[shard], shards[shard].count);
     shards[shard].incarnation++;
     happened(KIND_DELETED, 1);
 }
 
 void frames_cut(unsigned shard, unsigned count)
 {
-    cut(&shards[shard].items, count);
+    cut(&shards[shard], count);
     happened(KIND_CUT, 1);
 }
 
@@ -101,7 +92,7 @@ unsigned frames_receipts_kept(unsigned name)
     unsigned number = 0;
     size_t i;
     for (i = 0; i < receipts.count; i++)
-        number += name_of(receipts.at[i].session) == name;
+        number += name_of(receipts.at[i].it.session) == name;
     return number;
 }
 
@@ -117,10 +108,9 @@ void port_is_killed(void)
 
 void port_is_slow(void)
 {
-    if (!is_drawn(faults.slow))
-        return;
-    happened(KIND_SLOW, 1);
-    spend(drawn(3000) * MILLISECOND);
+    int is_slow = is_drawn(faults.slow);
+    happened(KIND_SLOW, is_slow != 0);
+    spend(is_slow ? drawn(3000) * MILLISECOND : 0);
 }
 
 /* A fault of this kind at this moment: what doesn't arrive now isn't the sender's fault. */
@@ -157,7 +147,7 @@ static int incarnation_of(struct carrier *base, unsigned shard, uint64_t *incarn
     if (fails())
         return CARRIER_FAULT;
     c->incarnation = *incarnation = shards[shard].incarnation;
-    *end = shards[shard].items.count;
+    *end = shards[shard].count;
     return 0;
 }
 
@@ -174,7 +164,7 @@ static int confirm(struct connection *c, unsigned shard, uint32_t tag, uint64_t 
     if (it == NULL)
         return CARRIER_FAULT;
     it->due = moment() + drawn(CONFIRMED_WITHIN) * MILLISECOND;
-    it->it = (struct confirmed){ tag, number, shards[shard].items.count };
+    it->it = (struct confirmed){ tag, number, shards[shard].count };
     for (; *end != NULL; end = &(*end)->next)
         it->due = (*end)->due > it->due ? (*end)->due : it->due;
     *end = it;
@@ -188,25 +178,19 @@ static void count_published(unsigned shard, const char *session, uint64_t number
     seen.second.under_way[shard]++;
     if (session[0] == 's' && number < MOST_TEXTS && seen.left[name][number] < UINT8_MAX)
         seen.left[name][number]++;
-}
-
-/* Somebody copies it. */
-static void copy_elsewhere(unsigned shard, const char *session, const uint8_t *frame, size_t len)
-{
-    if (!has(KIND_COPIED) || faults.is_over || drawn(3) != 0)
-        return;
-    happened(KIND_COPIED, 1);
-    put_frame((shard + 1) % SHARDS, session, frame, len);
+    happened(KIND_SILENT, faults.is_silent != 0);
 }
 
 static int publish(struct carrier *base, unsigned shard, const char *session, uint32_t tag, uint64_t number,
                    const uint8_t *frame, size_t len)
 {
     count_published(shard, session, number);
-    happened(KIND_SILENT, faults.is_silent != 0);
     if (faults.is_silent || is_lost_once(&faults.loses_frame))
         return 0;
-    copy_elsewhere(shard, session, frame, len);
+    if (has(KIND_COPIED) && !faults.is_over && drawn(3) == 0) { /* somebody copies it */
+        happened(KIND_COPIED, 1);
+        put_frame((shard + 1) % SHARDS, session, frame, len);
+    }
     if (fails()) {
         if (drawn(HAPPENS_ALL_THE_SAME) == 0)
             put_frame(shard, session, frame, len);
@@ -223,6 +207,13 @@ static int publish(struct carrier *base, unsigned shard, const char *session, ui
     return confirm((struct connection *)base, shard, tag, number);
 }
 
+static void drop_answer(struct answer **at)
+{
+    struct answer *it = *at;
+    *at = it->next;
+    free(it);
+}
+
 static int confirmed(struct carrier *base, struct confirmed *list, size_t room, int time)
 {
     struct answer **at = &((struct connection *)base)->answers;
@@ -231,10 +222,8 @@ static int confirmed(struct carrier *base, struct confirmed *list, size_t room, 
         pause_milliseconds(1);
     port_is_killed();
     while (*at != NULL && count < room && (*at)->due <= moment()) {
-        struct answer *it = *at;
-        list[count++] = it->it;
-        *at = it->next;
-        free(it);
+        list[count++] = (*at)->it;
+        drop_answer(at);
     }
     if (*at != NULL && has_file())
         ends_wake(running, (*at)->due);
@@ -253,19 +242,14 @@ static void seek(struct carrier *base, unsigned shard, uint64_t offset)
 static int fetch(struct carrier *base, struct carried *list, size_t room, int time)
 {
     struct connection *c = (struct connection *)base;
-    const struct shard_of_frames *from = &shards[c->shard];
+    const struct items *from = &shards[c->shard];
     size_t count = 0;
     if (fails())
         return CARRIER_FAULT;
-    if (c->incarnation != from->incarnation || c->after > from->items.count)
+    if (c->incarnation != from->incarnation || c->after > from->count)
         return CARRIER_CHANGED;
-    while (count < room && c->after < from->items.count) {
-        const struct item *it = &from->items.at[c->after++];
-        memcpy(list[count].session, it->session, sizeof it->session);
-        list[count].offset = c->after;
-        list[count].frame = it->bytes;
-        list[count++].len = it->len;
-    }
+    while (count < room && c->after < from->count)
+        list[count++] = from->at[c->after++].it;
     if (count == 0 && time > 0)
         pause_milliseconds(faults.is_over ? FAIR_WAIT : WAIT);
     return (int)count;
@@ -274,7 +258,7 @@ static int fetch(struct carrier *base, struct carried *list, size_t room, int ti
 static int behind(struct carrier *base, uint64_t *frames)
 {
     const struct connection *c = (const struct connection *)base;
-    size_t count = shards[c->shard].items.count;
+    size_t count = shards[c->shard].count;
     *frames = count > c->after ? count - c->after : 0;
     return 0;
 }
@@ -284,7 +268,7 @@ static int behind(struct carrier *base, uint64_t *frames)
 static size_t find_receipt(unsigned shard, const char *session)
 {
     size_t i = 0;
-    while (i < receipts.count && (receipts.at[i].shard != shard || strcmp(receipts.at[i].session, session) != 0))
+    while (i < receipts.count && (receipts.at[i].shard != shard || strcmp(receipts.at[i].it.session, session) != 0))
         i++;
     return i;
 }
@@ -309,6 +293,7 @@ static void keep_receipt(unsigned shard, const struct carried *receipt)
 static int acknowledge(struct carrier *base, unsigned shard, const struct carried *list, size_t count)
 {
     size_t i;
+    int party;
     if (fails())
         return CARRIER_FAULT;
     for (i = 0; i < count; i++) {
@@ -317,7 +302,8 @@ static int acknowledge(struct carrier *base, unsigned shard, const struct carrie
         if (!faults.loses_receipts && !is_struck(faults.lost, KIND_LOST))
             keep_receipt(shard, &list[i]);
     }
-    wake_senders();
+    for (party = SENDER; has_file() && party < SENDER + SENDERS; party++)
+        ends_wake(party, moment());
     return 0;
 }
 
@@ -334,7 +320,7 @@ static int give_receipts(struct carrier *base, carrier_receipt *take, void *give
         if (it->turn <= c->heard)
             continue;
         c->heard = it->turn;
-        take(given, it->session, it->bytes, it->len);
+        take(given, it->it.session, it->bytes, it->it.len);
     }
     return 0;
 }
@@ -355,11 +341,8 @@ static int never(struct carrier *base)
 static void close_carrier(struct carrier *base)
 {
     struct connection *c = (struct connection *)base;
-    while (c->answers != NULL) {
-        struct answer *it = c->answers;
-        c->answers = it->next;
-        free(it);
-    }
+    while (c->answers != NULL)
+        drop_answer(&c->answers);
     free(c);
 }
 

@@ -64,22 +64,11 @@ unsigned limited(enum limit limit, unsigned number);
 /* Whether the run has only kinds after which it is known how often each frame leaves, and when. */
 int is_calm(void);
 
-/* Where it is counted; it happened so often. */
-void kinds_count_at(uint64_t at[KIND_COUNT]);
+/* It happened so often. */
 void happened(enum kind kind, uint64_t times);
 
-/* From now on runs have these kinds. 0 if one of the words is none. */
+/* The run has these kinds and limits. 0 if one of the words is none. */
 int kinds_choose(const char *words);
-
-/* This run has a kind besides, or no other one than those chosen. */
-void kinds_add(enum kind kind);
-void kinds_begin(void);
-
-/* The kind of this name, or KIND_COUNT. */
-enum kind kind_of(const char *word, unsigned long len);
-
-/* The profile of this run. */
-const char *kinds_profile(void);
 
 /* A line for each kind: how often it happened. */
 void kinds_print(void);

@@ -1,30 +1,24 @@
-/* Runs seeds, one after the other. `usage` says how it is called. */
+/* One run. `usage` says how it is called. */
 #include "world.h"
 
 #include <stdio.h>
 #include <stdlib.h>
 #include <string.h>
-#include <sys/mman.h>
-#include <sys/resource.h>
 #include <sys/stat.h>
-#include <sys/wait.h>
-#include <unistd.h>
+#include <time.h>
 
-enum { FEW = 6, LOTS = 210, MOST_BESIDES = 3, SHORT_REST = 5, CALM_REST = 15 /* seconds */ };
+enum { FEW = 6, LOTS = 210, SHORT_REST = 5, CALM_REST = 15 /* seconds */ };
 
 static const char usage[] =
-    "simulation FOLDER PROFILE FIRST COUNT [BESIDES]\n"
-    "  FOLDER   for the databases of each run: it is emptied\n"
+    "simulation FOLDER PROFILE SEED\n"
+    "  FOLDER   for the databases of the run: it is empty\n"
     "  PROFILE  the kinds of faults and limits, joined by '+'; kinds.h has them\n"
-    "  BESIDES  kinds of which each seed draws none to two besides\n"
-    "It prints a line for each rule that a seed breaks, and the command that repeats it; then how often\n"
-    "each kind of fault happened. The variable SIMULATION_LOG has the programs log, and SIMULATION_PLANT\n"
-    "names a fault that is planted (engine.c). Status: 1 if a seed fails.\n";
+    "It prints a line for each rule that is broken; then how often each kind of fault happened, and how long it took.\n"
+    "The variable SIMULATION_LOG has the programs log, and SIMULATION_PLANT names a fault that is planted (engine.c).\n"
+    "Status: 1 if a rule is broken.\n";
 
 struct world world;
 struct faults faults;
-static enum kind besides[KIND_COUNT];
-static unsigned beside_count;
 
 void path_of(char path[PATHS], const char *file)
 {
@@ -46,52 +40,19 @@ int is_stream(unsigned name)
 
 /* ---- A run */
 
-/* Two senders of two kinds at once would be a third thing. */
-static int goes_with(enum kind kind)
-{
-    int has_second = has(KIND_FORKED) || has(KIND_TAKEN_OVER) || has(KIND_RESTORED);
-    return !has_second || (kind != KIND_FORKED && kind != KIND_TAKEN_OVER && kind != KIND_RESTORED);
-}
-
-/* They are drawn by themselves: the same kinds as a profile give the same run. */
-static void draw_kinds(uint64_t seed)
-{
-    uint64_t of_kinds = ~seed;
-    uint64_t count = beside_count > 0 ? chance_below(&of_kinds, MOST_BESIDES) : 0;
-    kinds_begin();
-    for (; count > 0; count--) {
-        enum kind kind = besides[chance_below(&of_kinds, beside_count)];
-        if (goes_with(kind))
-            kinds_add(kind);
-    }
-}
-
-static void empty_folder(void)
-{
-    char command[2 * PATHS + 40];
-    (void)snprintf(command, sizeof command, "rm -rf '%s' && mkdir -p '%s'", world.folder, world.folder);
-    if (system(command) != 0)
-        exit(2);
-}
-
-static void begin_world(uint64_t seed)
+/* The first step of the sender makes the outbox. */
+static void begin(uint64_t seed)
 {
     unsigned i;
-    chance = seed;
-    draw_kinds(seed);
-    empty_folder();
-    world.seed = seed;
+    chance = world.seed = seed;
+    faults.carrier_at = seen.worked_at = now;
     world.disturbed = limited(LIMIT_SECONDS, DISTURBED);
     world.names = limited(LIMIT_NAMES, has(KIND_MANY) ? LOTS : FEW);
     for (i = 0; i < world.names; i++)
         world.name[i].shard = has(KIND_MANY) ? 0 : i % SHARDS;
-}
-
-/* The first step of the sender makes the outbox. */
-static void begin(uint64_t seed)
-{
-    begin_world(seed);
-    faults.carrier_at = seen.worked_at = now;
+    path_of(world.boxes[0].path, "outbox.db");
+    path_of(world.boxes[1].path, "forked.db");
+    path_of(world.saved.path, "copy.db");
     frames_begin();
     ends_begin();
     ends_step(SENDER);
@@ -168,95 +129,23 @@ static void run(uint64_t seed)
     end();
 }
 
-/* ---- All runs, each in a process of its own, so that none depends on those before */
-
-static struct totals { uint64_t counts[KIND_COUNT], steps, nanoseconds; } *totals;
-
-/* Whether it went well. */
-static int run_and_print(uint64_t seed)
-{
-    char before[40];
-    run(seed);
-    totals->steps += world.steps;
-    totals->nanoseconds += now;
-    (void)snprintf(before, sizeof before, "seed %llu: ", (unsigned long long)seed);
-    if (rules_print(before) == 0)
-        return 1;
-    printf("    carrier/simulation/simulate %s %llu\n", kinds_profile(), (unsigned long long)seed);
-    return 0;
-}
-
-static int run_apart(uint64_t seed)
-{
-    int status = 0;
-    pid_t child = fork();
-    if (child == 0) {
-        int is_fine = run_and_print(seed);
-        (void)fflush(stdout);
-        _exit(!is_fine);
-    }
-    if (child < 0 || waitpid(child, &status, 0) < 0)
-        exit(2);
-    if (WIFSIGNALED(status))
-        printf("seed %llu: the run was ended by signal %d\n", (unsigned long long)seed, WTERMSIG(status));
-    return status == 0;
-}
-
-static double processor_seconds(void)
-{
-    struct rusage used;
-    (void)getrusage(RUSAGE_CHILDREN, &used); /* always 0 of this word */
-    return (double)(used.ru_utime.tv_sec + used.ru_stime.tv_sec)
-           + (double)(used.ru_utime.tv_usec + used.ru_stime.tv_usec) / 1e6;
-}
-
 /* ---- */
-
-static int take_besides(const char *words)
-{
-    while (*words != 0) {
-        size_t len = strcspn(words, ",");
-        enum kind kind = kind_of(words, len);
-        if (kind == KIND_COUNT)
-            return 0;
-        besides[beside_count++ % KIND_COUNT] = kind;
-        words += len + (words[len] == ',');
-    }
-    return 1;
-}
-
-static int take_words(int count, char **words)
-{
-    if (count < 5 || count > 6 || strlen(words[1]) + 1 > sizeof world.folder || strchr(words[1], '\'') != NULL)
-        return 0;
-    memcpy(world.folder, words[1], strlen(words[1]) + 1);
-    path_of(world.boxes[0].path, "outbox.db");
-    path_of(world.boxes[1].path, "forked.db");
-    path_of(world.saved.path, "copy.db");
-    return kinds_choose(words[2]) && (count == 5 || take_besides(words[5]));
-}
 
 int main(int count, char **words)
 {
-    uint64_t seed, first, last, failed = 0;
-    if (!take_words(count, words)) {
+    const char *plant = getenv("SIMULATION_PLANT");
+    unsigned broken;
+    if (count != 4 || strlen(words[1]) >= sizeof world.folder || !kinds_choose(words[2])
+        || (plant != NULL && !engine_plant(plant))) {
         (void)fputs(usage, stderr);
         return 2;
     }
-    totals = mmap(NULL, sizeof *totals, PROT_READ | PROT_WRITE, MAP_SHARED | MAP_ANONYMOUS, -1, 0);
-    if (totals == MAP_FAILED)
-        return 2;
-    kinds_count_at(totals->counts);
-    if (getenv("SIMULATION_PLANT") != NULL && !engine_plant(getenv("SIMULATION_PLANT")))
-        return 2;
-    first = strtoull(words[3], NULL, 10);
-    last = first + strtoull(words[4], NULL, 10);
+    (void)strcpy(world.folder, words[1]);
     umask(077); /* as the programs do */
-    for (seed = first; seed < last; seed++)
-        failed += !run_apart(seed);
+    run(strtoull(words[3], NULL, 10));
+    broken = rules_print();
     kinds_print();
-    printf("%llu steps, %llu virtual seconds, %.1f s of a processor\n", (unsigned long long)totals->steps,
-           (unsigned long long)(totals->nanoseconds / SECOND), processor_seconds());
-    printf("%llu passed, %llu failed\n", (unsigned long long)(last - first - failed), (unsigned long long)failed);
-    return failed > 0;
+    printf("%lu steps, %llu virtual seconds, %.3f s of a processor\n", world.steps, (unsigned long long)(now / SECOND),
+           (double)clock() / CLOCKS_PER_SEC);
+    return broken > 0;
 }

@@ -47,6 +47,15 @@ WRAPPED(ssize_t, getrandom, void *to, size_t len, unsigned flags)
     return (ssize_t)len;
 }
 
+uint64_t digest_of(const void *bytes, size_t len)
+{
+    const uint8_t *at = bytes;
+    uint64_t digest = UINT64_C(14695981039346656037);
+    for (; len > 0; len--)
+        digest = (digest ^ *at++) * UINT64_C(1099511628211);
+    return digest;
+}
+
 /* ---- Time: the port clock.h */
 
 uint64_t moment(void)

@@ -47,6 +47,9 @@ extern uint64_t chance;
 unsigned drawn(unsigned below);
 int is_drawn(unsigned thousandths);
 
+/* A digest that nobody forges here (FNV-1a). */
+uint64_t digest_of(const void *bytes, size_t len);
+
 /* Runs a step of a party: how long it took, and 1 if it was killed within. */
 int party_run(int party, void (*step)(int), uint64_t *took);
 

@@ -27,7 +27,6 @@ enum {
 static const char *const rule_texts[] = { RULES(RULE_TEXT) };
 
 static char broken[RULE_COUNT][TEXT];
-static sqlite3_int64 last_effect[SHARDS], last_aside[SHARDS];
 static unsigned unseen, spinning;
 
 void rule_broken(enum rule rule, const char *form, ...)
@@ -42,13 +41,13 @@ void rule_broken(enum rule rule, const char *form, ...)
     va_end(values);
 }
 
-unsigned rules_print(const char *before)
+unsigned rules_print(void)
 {
     unsigned i, count = 0;
     for (i = 0; i < RULE_COUNT; i++)
         if (broken[i][0] != 0) {
             count++;
-            printf("%s%s\n", before, broken[i]);
+            printf("%s\n", broken[i]);
         }
     return count;
 }
@@ -59,15 +58,6 @@ unsigned rules_print(const char *before)
 static int has_order(void)
 {
     return !world.boxes[1].is_used;
-}
-
-/* FNV-1a, and no zero. */
-static unsigned digest_of(const char *session)
-{
-    uint32_t digest = UINT32_C(2166136261);
-    for (; *session != 0; session++)
-        digest = (digest ^ (unsigned char)*session) * UINT32_C(16777619);
-    return digest != 0 ? digest : 1;
 }
 
 static void see_effect(struct name *it, unsigned name, unsigned serial)
@@ -96,31 +86,28 @@ static void see(enum outcome outcome, char **values)
     happened(KIND_ASIDE, outcome == PUT_ASIDE);
     if (outcome == PUT_ASIDE && seen.runs[name][serial] < TRIES)
         rule_broken(RULE_ASIDE_EARLY, "s%u text %u was put aside after %u tries", name, serial, seen.runs[name][serial]);
-    it->took_in[serial] = digest_of(values[1]);
+    it->took_in[serial] = digest_of(values[1], strlen(values[1]));
     if (outcome == TOOK_EFFECT)
         see_effect(it, name, serial);
 }
 
-static int take_effects(void *given, int count, char **values, char **names)
+/* A table of a shard's store: what its rows are the outcome of, and the last one that was seen. */
+struct table { enum outcome outcome; sqlite3_int64 last; };
+
+static int take_row(void *given, int count, char **values, char **names)
 {
-    *(sqlite3_int64 *)given = atoll(values[0]);
-    see(TOOK_EFFECT, values);
+    struct table *table = given;
+    table->last = atoll(values[0]);
+    see(table->outcome, values);
     return 0;
 }
 
-static int take_asides(void *given, int count, char **values, char **names)
-{
-    *(sqlite3_int64 *)given = atoll(values[0]);
-    see(PUT_ASIDE, values);
-    return 0;
-}
-
-static void look_at_table(sqlite3 *db, const char *table, sqlite3_int64 *last, each_row *take)
+static void look_at_table(sqlite3 *db, const char *name, struct table *table)
 {
     char sql[SQL];
-    (void)snprintf(sql, sizeof sql, "SELECT id, session, stream, hex(text) FROM %s WHERE id > %lld ORDER BY id", table,
-                   (long long)*last);
-    (void)sqlite3_exec(db, sql, take, last, NULL); /* the table may not be there yet */
+    (void)snprintf(sql, sizeof sql, "SELECT id, session, stream, hex(text) FROM %s WHERE id > %lld ORDER BY id", name,
+                   (long long)table->last);
+    (void)sqlite3_exec(db, sql, take_row, table, NULL); /* the table may not be there yet */
 }
 
 static int take_elsewhere(void *given, int count, char **values, char **names)
@@ -145,13 +132,15 @@ static sqlite3 *store_of(unsigned shard)
 
 static void look_at_effects(void)
 {
+    static struct table asides[SHARDS] = { { PUT_ASIDE, 0 }, { PUT_ASIDE, 0 } };
+    static struct table effects[SHARDS] = { { TOOK_EFFECT, 0 }, { TOOK_EFFECT, 0 } };
     unsigned i;
     for (i = 0; i < (has_one_store() ? 1u : (unsigned)SHARDS); i++) {
         sqlite3 *db = store_of(i);
         if (db == NULL)
             continue;
-        look_at_table(db, "aside", &last_aside[i], take_asides);
-        look_at_table(db, "effect", &last_effect[i], take_effects);
+        look_at_table(db, "aside", &asides[i]);
+        look_at_table(db, "effect", &effects[i]);
         if (has(KIND_COPIED))
             (void)sqlite3_exec(db, "SELECT name FROM session JOIN opened USING (name) WHERE session.shard !="
                                " opened.shard", take_elsewhere, NULL, NULL); /* the tables may not be there yet */
@@ -160,23 +149,23 @@ static void look_at_effects(void)
 
 /* ---- What an outbox has, and says */
 
-static struct box *looked_at;
+static int by_id(const void *one, const void *other)
+{
+    sqlite3_int64 id = ((const struct mark *)one)->id, other_id = ((const struct mark *)other)->id;
+    return (id > other_id) - (id < other_id);
+}
 
 /* Of a name rising texts have rising rows. */
 static int take_text(void *given, int count, char **values, char **names)
 {
-    unsigned name = name_of(values[0]), low = 0, high = name < world.names ? looked_at->count[name] : 0;
-    sqlite3_int64 id = atoll(values[1]);
-    while (low < high) {
-        unsigned middle = (low + high) / 2;
-        if (looked_at->marks[name][middle].id < id)
-            low = middle + 1;
-        else
-            high = middle;
-    }
-    if (name < world.names && low < looked_at->count[name] && looked_at->marks[name][low].id == id) {
-        world.name[name].waits[looked_at->marks[name][low].serial] = 1;
-        world.name[name].sealed_in[looked_at->marks[name][low].serial] = digest_of(values[0]);
+    const struct box *of = given;
+    unsigned name = name_of(values[0]);
+    const struct mark sought = { .id = atoll(values[1]) }, *found = NULL;
+    if (name < world.names && of->count[name] > 0)
+        found = bsearch(&sought, of->marks[name], of->count[name], sizeof sought, by_id);
+    if (found != NULL) {
+        world.name[name].waits[found->serial] = 1;
+        world.name[name].sealed_in[found->serial] = digest_of(values[0], strlen(values[0]));
     }
     return 0;
 }
@@ -227,7 +216,8 @@ static unsigned look_at_texts(const struct box *of, unsigned name)
 static void look_at_sessions(const struct box *of, unsigned name)
 {
     const struct name *it = &world.name[name];
-    unsigned i, before = 0;
+    uint64_t before = 0;
+    unsigned i;
     for (i = 0; i < of->count[name]; i++) {
         unsigned serial = of->marks[name][i].serial;
         if (it->outcome[serial] == NOTHING_YET && it->waits[serial] && before == 0)
@@ -260,8 +250,7 @@ static void look_at_box(struct box *it, int is_end)
     unsigned name;
     for (name = 0; name < world.names; name++)
         memset(world.name[name].waits, 0, sizeof world.name[name].waits);
-    looked_at = it;
-    (void)box_run(it, "SELECT session, id FROM text UNION ALL SELECT session, text FROM sealed", take_text, NULL);
+    (void)box_run(it, "SELECT session, id FROM text UNION ALL SELECT session, text FROM sealed", take_text, it);
     look_at_effects();
     for (name = 0; name < world.names; name++) {
         look_at_undone(name, look_at_texts(it, name), is_end);
@@ -367,20 +356,26 @@ static int take_number(void *given, int count, char **values, char **names)
     return 0;
 }
 
+static unsigned long number_of(const char *sql)
+{
+    unsigned long number = 0;
+    (void)box_run(&world.boxes[0], sql, take_number, &number); /* it can be read */
+    return number;
+}
+
 /* Once all is done nothing of it is left. Of a stream the last two sessions are known. */
 static void look_at_rest(void)
 {
-    unsigned long frames = 0, sealed = 0, opened = 0;
+    unsigned long frames = number_of("SELECT count(*) FROM frame"), sealed = number_of("SELECT count(*) FROM sealed");
+    unsigned long opened = number_of("SELECT max(many) FROM (SELECT count(*) AS many FROM opened GROUP BY stream)");
     unsigned name;
-    (void)box_run(&world.boxes[0], "SELECT count(*) FROM frame", take_number, &frames); /* they can be read */
-    (void)box_run(&world.boxes[0], "SELECT count(*) FROM sealed", take_number, &sealed);
-    (void)box_run(&world.boxes[0], "SELECT max(many) FROM (SELECT count(*) AS many FROM opened GROUP BY stream)", take_number,
-                  &opened);
     if (frames + sealed > 0)
         rule_broken(RULE_KEPT, "the outbox has %lu frames and %lu texts of what took effect", frames, sealed);
-    if (opened > OPENED && !has(KIND_SKEWED) && !has(KIND_SILENT))
+    if (has(KIND_SKEWED) || has(KIND_SILENT))
+        return;
+    if (opened > OPENED)
         rule_broken(RULE_KEPT, "the outbox has %lu sessions of a stream", opened);
-    for (name = 0; name < world.names && !has(KIND_SKEWED) && !has(KIND_SILENT); name++)
+    for (name = 0; name < world.names; name++)
         if (frames_receipts_kept(name) > OPENED)
             rule_broken(RULE_KEPT, "the carrier has receipts of %u sessions of s%u", frames_receipts_kept(name), name);
 }

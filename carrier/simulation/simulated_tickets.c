@@ -10,20 +10,10 @@
 #include <stdlib.h>
 #include <string.h>
 
-enum { FIRST_BYTE = 0x6e, DIGEST = 8, LIFE = 3600, READABLE = 4 };
+enum { FIRST_BYTE = 0x6e, DIGEST = sizeof(uint64_t), LIFE = 3600, READABLE = 4 };
 
 struct kerberos { const struct kerberos_options *options; };
 struct tickets { int has_tried; };
-
-static void digest_of(const void *bytes, size_t len, uint8_t digest[DIGEST])
-{
-    const uint8_t *at = bytes;
-    uint64_t hash = UINT64_C(14695981039346656037); /* FNV-1a */
-    size_t i;
-    for (i = 0; i < len; i++)
-        hash = (hash ^ at[i]) * UINT64_C(1099511628211);
-    memcpy(digest, &hash, DIGEST);
-}
 
 /* ---- The keytab */
 
@@ -56,10 +46,11 @@ void kerberos_close(struct kerberos *kerberos)
 int at_rest_wrap(struct kerberos *kerberos, int usage, const char *about, const uint8_t *key, size_t len,
                  struct wrapped *to)
 {
+    uint64_t digest = digest_of(about, strlen(about));
     if (!can_read_keys())
         return -1;
     *to = (struct wrapped){ .kvno = 1, .etype = 18, .len = DIGEST + len };
-    digest_of(about, strlen(about), to->bytes);
+    memcpy(to->bytes, &digest, DIGEST);
     memcpy(to->bytes + DIGEST, key, len);
     return 0;
 }
@@ -67,9 +58,8 @@ int at_rest_wrap(struct kerberos *kerberos, int usage, const char *about, const 
 int at_rest_read(struct kerberos *kerberos, int usage, const char *about, const struct wrapped *from,
                  uint8_t key[SESSION_KEY], size_t *len)
 {
-    uint8_t digest[DIGEST];
-    digest_of(about, strlen(about), digest);
-    if (!can_read_keys() || from->len < DIGEST || from->len > DIGEST + SESSION_KEY || memcmp(digest, from->bytes, DIGEST) != 0)
+    uint64_t digest = digest_of(about, strlen(about));
+    if (!can_read_keys() || from->len < DIGEST || from->len > DIGEST + SESSION_KEY || memcmp(&digest, from->bytes, DIGEST) != 0)
         return -1;
     *len = from->len - DIGEST;
     memcpy(key, from->bytes + DIGEST, *len);
@@ -128,12 +118,12 @@ int opening_session(struct kerberos *kerberos, const struct opened *it, unsigned
 enum opening_answer opening_take(struct kerberos *kerberos, unsigned shard, const char *name, const uint8_t *frame,
                                  size_t len, struct opened *it)
 {
-    uint8_t digest[DIGEST];
+    uint64_t digest;
     memset(it, 0, sizeof *it);
     if (len != 1 + sizeof *it + DIGEST)
         return OPENING_MALFORMED;
-    digest_of(frame + 1, sizeof *it, digest);
-    if (memcmp(digest, frame + 1 + sizeof *it, DIGEST) != 0)
+    digest = digest_of(frame + 1, sizeof *it);
+    if (memcmp(&digest, frame + 1 + sizeof *it, DIGEST) != 0)
         return OPENING_CHANGED;
     memcpy(it, frame + 1, sizeof *it);
     if (strcmp(it->name, name) != 0)
@@ -172,6 +162,7 @@ int tickets_make_opening(struct tickets *tickets, struct kerberos *kerberos, con
                          size_t room, size_t *len)
 {
     struct opened opened = *it;
+    uint64_t digest;
     if (!tickets_have(tickets))
         return -1;
     happened(KIND_TICKETS, 1);
@@ -179,7 +170,8 @@ int tickets_make_opening(struct tickets *tickets, struct kerberos *kerberos, con
     (void)snprintf(opened.client, sizeof opened.client, "%s", kerberos->options->client);
     frame[0] = FIRST_BYTE;
     memcpy(frame + 1, &opened, sizeof opened);
-    digest_of(&opened, sizeof opened, frame + 1 + sizeof opened);
+    digest = digest_of(&opened, sizeof opened);
+    memcpy(frame + 1 + sizeof opened, &digest, DIGEST);
     *len = 1 + sizeof opened + DIGEST;
     return 0;
 }

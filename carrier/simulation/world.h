@@ -38,7 +38,7 @@ struct name {
     int is_struck;           /* something was done to the session itself, so it may stand */
     unsigned said, stands;   /* what its outbox says, and why */
     unsigned short put_at[MOST_TEXTS]; /* in which second a text was put in, */
-    unsigned took_in[MOST_TEXTS], sealed_in[MOST_TEXTS]; /* and of a stream the digest of its session's name */
+    uint64_t took_in[MOST_TEXTS], sealed_in[MOST_TEXTS]; /* and of a stream the digest of its session's name */
     unsigned char outcome[MOST_TEXTS], waits[MOST_TEXTS]; /* waits: it is in an outbox, as was looked last */
 };
 
@@ -70,9 +70,8 @@ void box_close(struct box *it);
 void box_put(struct box *it, unsigned name);
 void box_put_some(struct box *it);
 
-/* Both have the same texts from now on, of which the files are the caller's. */
-void box_copy_marks(struct box *to, const struct box *from);
-void box_copy_file(const struct box *from, const char *path);
+/* An outbox that isn't open has the same texts from now on, in its file. */
+void box_copy(struct box *to, const struct box *from);
 
 /* Whether all that was put in took effect or was put aside. */
 int box_is_done(const struct box *it);
@@ -119,6 +118,6 @@ void rules_end(void);
 void rule_broken(enum rule rule, const char *form, ...) __attribute__((format(printf, 2, 3)));
 
 /* Prints those that were broken, each once: how many. */
-unsigned rules_print(const char *before);
+unsigned rules_print(void);
 
 #endif

@@ -71,8 +71,8 @@ def test_each_mutant_is_in_the_table():
 
 
 def test_each_planted_fault_is_in_a_table():
-    engine, all_of_them = simulate.engine_plants(), plants.FOUND | plants.MADE_UP
-    assert len(engine) >= 20 and set(engine) == {name for name in all_of_them if not simulate.edits_of(name)}
+    engine = re.findall(r'X\(\w+, "(.*?)"\)', building.text_of("carrier/simulation/engine.c"))
+    assert len(engine) >= 20 and set(engine) == {it for it in plants.FOUND | plants.MADE_UP if not simulate.edits_of(it)}
     assert not set(plants.FOUND) & set(plants.MADE_UP)
 
 
