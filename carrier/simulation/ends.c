@@ -58,8 +58,9 @@ void ends_use_sessions(unsigned within)
     sessions_forget(file);
 }
 
-static void give_sessions(struct its *to)
+static void give_sessions(int party)
 {
+    struct its *to = &files[party - RECEIVER];
     if (to->later != NULL && to->from <= now) {
         sessions_forget(to->now);
         to->now = to->later;
@@ -185,7 +186,7 @@ void ends_step(int party)
     world.woken[party] = UINT64_MAX;
     until = 0;
     if (!is_sender(party))
-        give_sessions(&files[party - RECEIVER]);
+        give_sessions(party);
     if (party_run(party, (was_up ? steps : starts)[is_sender(party)], &took)) {
         world.is_up[party] = 0;
         world.kills++;

@@ -1,5 +1,5 @@
-/* Around the calls of krb_engine (--wrap): whose turn it is; and the fault that is planted, the opposite of one of its laws, by
- * which a call is given something else or answers it. */
+/* Around the calls of krb_engine (--wrap): whose turn it is; and the fault that is planted, the opposite of one of its
+ * laws, which changes what a call is given or what it answers. */
 #include "world.h"
 
 #include <krbrelay.h>
@@ -48,9 +48,9 @@ int engine_plant(const char *text)
 /* ---- The sessions of a sender's lanes */
 
 struct place {
-    uint64_t since, order, overtaken; /* since which turn of the lane it waits (0: it doesn't), as the how many'th; and how many
-                                       * that waited for less long were served before it */
-    uint64_t left, left_at;     /* frames below this number have left, the last of them for the first time at this moment */
+    uint64_t since, order;      /* it waits since this turn of the lane (0: it doesn't), as this one of all that did */
+    uint64_t overtaken;         /* so many that waited for less long were served before it */
+    uint64_t left, left_at;     /* frames below this number have left, the last one for the first time at this moment */
     uint64_t kept;              /* frames that were sealed, and the lane isn't told yet */
     struct krbrelay_stored row; /* as it was seen last */
     uint32_t opens, is_stopped;
@@ -79,7 +79,8 @@ static struct place *place_of(const struct krbrelay_lane *handle, uint32_t place
 
 static struct krbrelay_stored row_of(const struct krbrelay_sending *end)
 {
-    return (struct krbrelay_stored){ end->progress.next, end->progress.carried, end->progress.at, end->done, end->list };
+    const struct krbrelay_progress *it = &end->progress;
+    return (struct krbrelay_stored){ it->next, it->carried, it->at, end->done, end->list };
 }
 
 WRAPPED(enum krbrelay_answer, krbrelay_lane_add, struct krbrelay_lane *handle, const struct krbrelay_stored *row,
@@ -156,15 +157,16 @@ static void note_turn(const struct krbrelay_lane *handle, const struct krbrelay_
     int leaves = served->command.kind == KRBRELAY_COMMAND_PUBLISH;
     of->turns += leaves != 0;
     if (it->since > 0 && of->turns > it->since + MOST_TURNS)
-        rule_broken(RULE_UNFAIR, "a session's turn came after %llu of others", (unsigned long long)(of->turns - it->since));
-    for (other = of->at; other < of->at + of->count && leaves && it->since > 0 && served->command.number >= it->left; other++)
+        rule_broken(RULE_UNFAIR, "a session's turn came after more than %d of others", MOST_TURNS);
+    if (!leaves || it->since == 0 || served->command.number < it->left)
+        return;
+    for (other = of->at; other < of->at + of->count; other++)
         if (other->since > 0 && other->order < it->order && ++other->overtaken > MOST_OVERTAKEN)
             rule_broken(RULE_UNFAIR, "a session waits, and %d that waited for less long were served", MOST_OVERTAKEN);
-    it->since = 0;
 }
 
-/* The fault: the lane is told of what was sealed for the session that began to wait last; or of one frame of a session of which
- * all others are carried. 0: of none. */
+/* The fault: the lane is told of what was sealed for the session that began to wait last; or of one frame of a session
+ * of which all others are carried. 0: of none. */
 static int tell_more(struct krbrelay_lane *handle)
 {
     struct seen_lane *of = lane_of(handle);
@@ -173,11 +175,12 @@ static int tell_more(struct krbrelay_lane *handle)
     uint64_t count;
     for (it = of->at; it < of->at + of->count; it++)
         if (it->kept > 0 && find_end(handle, (uint32_t)(it - of->at), &end)
-            && (plant == PLANT_NARROW ? end.progress.carried == end.progress.next : last == NULL || it->order > last->order))
+            && (plant == PLANT_LAST_FIRST ? last == NULL || it->order > last->order
+                                          : end.progress.carried == end.progress.next))
             last = it;
     if (last == NULL)
         return 0;
-    count = plant == PLANT_NARROW ? 1 : last->kept;
+    count = plant == PLANT_LAST_FIRST ? last->kept : 1;
     last->kept -= count;
     return __real_krbrelay_lane_sealed(handle, (uint32_t)(last - of->at), count) == KRBRELAY_OK;
 }
@@ -189,14 +192,17 @@ static uint32_t serve_beyond(struct krbrelay_lane *handle, struct krbrelay_serve
     uint64_t from, limit;
     uint32_t i;
     for (i = 0; i < lane_of(handle)->count; i++) {
-        if (!find_end(handle, i, &end) || end.is_held || end.done < end.recovers || (place_of(handle, i)->opens && end.progress.sent == 0))
+        const struct place *it = place_of(handle, i);
+        if (!find_end(handle, i, &end) || end.is_held || end.done < end.recovers
+            || (it->opens && end.progress.sent == 0))
             continue;
-        from = place_of(handle, i)->left > end.progress.carried ? place_of(handle, i)->left : end.progress.carried;
-        limit = end.progress.carried + end.window < end.progress.next ? end.progress.carried + end.window : end.progress.next;
+        from = it->left > end.progress.carried ? it->left : end.progress.carried;
+        limit = end.progress.carried + end.window;
+        limit = limit < end.progress.next ? limit : end.progress.next;
         if (from >= limit)
             continue;
-        *served = (struct krbrelay_served){ .place = i, .command = { .kind = KRBRELAY_COMMAND_PUBLISH, .number = from,
-                                                                     .count = limit - from } };
+        *served = (struct krbrelay_served){ .place = i, .command.kind = KRBRELAY_COMMAND_PUBLISH,
+                                            .command.number = from, .command.count = limit - from };
         return 1;
     }
     return 0;
@@ -207,11 +213,13 @@ static void lose_patience(struct krbrelay_lane *handle, uint64_t at_now)
 {
     struct krbrelay_sending end;
     uint32_t i;
-    for (i = 0; i < lane_of(handle)->count; i++)
+    for (i = 0; i < lane_of(handle)->count; i++) {
+        const struct krbrelay_progress *it = &end.progress;
         if (find_end(handle, i, &end)
-            && ((end.progress.carried < end.progress.sent && end.again.length > AGAIN && end.again.since + AGAIN <= at_now)
-                || (end.done < end.progress.carried && end.probe.length > PROBE && end.probe.since + PROBE <= at_now)))
+            && ((it->carried < it->sent && end.again.length > AGAIN && end.again.since + AGAIN <= at_now)
+                || (end.done < it->carried && end.probe.length > PROBE && end.probe.since + PROBE <= at_now)))
             load_again(handle, i, row_of(&end));
+    }
 }
 
 /* The faults of what is to be done. */
@@ -253,6 +261,7 @@ WRAPPED(uint32_t, krbrelay_lane_turn, struct krbrelay_lane *handle, uint64_t at_
     if (!is_served)
         return 0;
     note_turn(handle, served);
+    place_of(handle, served->place)->since = 0;
     change_command(handle, at_now, served);
     return 1;
 }
@@ -263,20 +272,22 @@ WRAPPED(enum krbrelay_answer, krbrelay_lane_confirmed, struct krbrelay_lane *han
         uint64_t offset, uint64_t at_now, uint32_t *counts)
 {
     struct krbrelay_sending end;
-    if ((plant == PLANT_ANY_OFFSET || plant == PLANT_ANY_CONFIRMED) && find_end(handle, place, &end)) {
-        struct krbrelay_stored row = row_of(&end);
+    const struct krbrelay_progress *it = &end.progress;
+    struct krbrelay_stored row;
+    if (plant == PLANT_ANY_OFFSET && find_end(handle, place, &end) && offset <= it->at)
+        offset = it->at + 1;
+    if (plant == PLANT_ANY_CONFIRMED && find_end(handle, place, &end) && number > it->carried && number < it->sent
+        && offset > it->at) {
+        row = row_of(&end);
         row.carried = number;
-        if (plant == PLANT_ANY_OFFSET && offset <= end.progress.at)
-            offset = end.progress.at + 1;
-        if (plant == PLANT_ANY_CONFIRMED && number > end.progress.carried && number < end.progress.sent && offset > end.progress.at)
-            load_again(handle, place, row);
+        load_again(handle, place, row);
     }
     return __real_krbrelay_lane_confirmed(handle, place, number, offset, at_now, counts);
 }
 
 WRAPPED(enum krbrelay_answer, krbrelay_lane_receipt, struct krbrelay_lane *handle, uint32_t place,
-        const struct krbrelay_receipt *receipt, const uint8_t own[KRBRELAY_HISTORY_SIZE], uint32_t own_is, uint64_t at_now,
-        uint32_t *heard)
+        const struct krbrelay_receipt *receipt, const uint8_t own[KRBRELAY_HISTORY_SIZE], uint32_t own_is,
+        uint64_t at_now, uint32_t *heard)
 {
     struct krbrelay_receipt it = *receipt;
     struct krbrelay_sending end;
@@ -290,8 +301,8 @@ WRAPPED(enum krbrelay_answer, krbrelay_lane_receipt, struct krbrelay_lane *handl
     return __real_krbrelay_lane_receipt(handle, place, &it, own, own_is, at_now, heard);
 }
 
-WRAPPED(enum krbrelay_answer, krbrelay_sending_state, const struct krbrelay_sending *end, uint64_t *under_way, uint64_t *room,
-        uint32_t *settled, uint32_t *stands)
+WRAPPED(enum krbrelay_answer, krbrelay_sending_state, const struct krbrelay_sending *end, uint64_t *under_way,
+        uint64_t *room, uint32_t *settled, uint32_t *stands)
 {
     enum krbrelay_answer answer = __real_krbrelay_sending_state(end, under_way, room, settled, stands);
     if (plant == PLANT_ALL_STAND)

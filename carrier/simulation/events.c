@@ -336,8 +336,8 @@ static void spoil_rows(void)
 static void poison(unsigned name, unsigned count, int is_error, uint64_t until)
 {
     unsigned i;
-    for (i = count; i > 0; i--)
-        effects_poison((struct poison){ name, world.name[name].serials + i - 1, is_error, until });
+    for (i = count; i > 0 && poisons.count < MOST_POISONS; i--)
+        poisons.at[poisons.count++] = (struct poison){ name, world.name[name].serials + i - 1, is_error, until };
     for (i = 0; i < world.names && until == NEVER; i++)
         if (i == name || (!has(KIND_ASIDE) && (has(KIND_MOVED) || world.name[i].shard == world.name[name].shard)))
             world.name[i].is_struck = 1;
@@ -371,10 +371,19 @@ static void set_clocks(void)
 
 /* ---- */
 
+/* Effects that are slow stay so. What was counted and when frames couldn't leave last stays known. */
+static void end_faults(void)
+{
+    faults = (struct faults){ .slow_effects = faults.slow_effects, .carrier_at = faults.carrier_at,
+                              .injected = faults.injected, .of_stores = faults.of_stores, .is_over = 1 };
+}
+
 void events_second(void)
 {
     if (is_time(KIND_LATER, world.disturbed + LATER_BY))
         ends_use_sessions(0); /* which has the line that was missing */
+    if (world.second == world.disturbed)
+        end_faults();
     if (world.second >= world.disturbed)
         return;
     draw_chances();
@@ -387,11 +396,4 @@ void events_second(void)
     spoil_rows();
     refuse_texts();
     set_clocks();
-}
-
-/* Effects that are slow stay so. What was counted and when frames couldn't leave last stays known. */
-void events_end(void)
-{
-    faults = (struct faults){ .slow_effects = faults.slow_effects, .carrier_at = faults.carrier_at,
-                              .injected = faults.injected, .of_stores = faults.of_stores, .is_over = 1 };
 }

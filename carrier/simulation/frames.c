@@ -265,16 +265,11 @@ static int behind(struct carrier *base, uint64_t *frames)
 
 /* ---- Receipts: of a session of a shard the last one is kept */
 
-static size_t find_receipt(unsigned shard, const char *session)
+static void drop_receipt(unsigned shard, const char *session)
 {
     size_t i = 0;
     while (i < receipts.count && (receipts.at[i].shard != shard || strcmp(receipts.at[i].it.session, session) != 0))
         i++;
-    return i;
-}
-
-static void drop_receipt(size_t i)
-{
     if (i == receipts.count)
         return;
     free(receipts.at[i].bytes);
@@ -284,7 +279,7 @@ static void drop_receipt(size_t i)
 static void keep_receipt(unsigned shard, const struct carried *receipt)
 {
     struct item *kept;
-    drop_receipt(find_receipt(shard, receipt->session));
+    drop_receipt(shard, receipt->session);
     kept = put(&receipts, receipt->session, receipt->frame, receipt->len);
     kept->shard = shard;
     kept->turn = ++turns;
@@ -328,7 +323,7 @@ static int give_receipts(struct carrier *base, carrier_receipt *take, void *give
 static void forget_receipt(struct carrier *base, unsigned shard, const char *session)
 {
     if (!fails())
-        drop_receipt(find_receipt(shard, session));
+        drop_receipt(shard, session);
 }
 
 /* ---- */

@@ -75,24 +75,6 @@ static void put_texts(void)
     }
 }
 
-static void pass_second(void)
-{
-    world.second++;
-    events_second();
-    put_texts();
-    if (world.second == world.disturbed)
-        events_end();
-    rules_second();
-}
-
-static void step_all(void)
-{
-    int party;
-    for (party = SENDER; party < PARTIES; party++)
-        if (world.may_run[party] && world.resumes[party] <= now)
-            ends_step(party);
-}
-
 /* In a calm run the last receipts come before it ends. */
 static int is_done(void)
 {
@@ -103,30 +85,28 @@ static int is_done(void)
                && box_is_done(&world.boxes[0]));
 }
 
-static void end(void)
+static void run(uint64_t seed)
 {
+    uint64_t next;
     int party;
+    begin(seed);
+    next = now + SECOND;
+    while (!is_done()) {
+        for (party = SENDER; party < PARTIES; party++)
+            if (world.may_run[party] && world.resumes[party] <= now)
+                ends_step(party);
+        for (now = ends_next(); now >= next && !is_done(); next += SECOND) {
+            world.second++;
+            events_second();
+            put_texts();
+            rules_second();
+        }
+    }
     rules_end();
     for (party = SENDER; party < PARTIES; party++)
         ends_stop(party, 1, 0);
     box_close(&world.boxes[0]);
     box_close(&world.boxes[1]);
-}
-
-static void run(uint64_t seed)
-{
-    uint64_t next;
-    begin(seed);
-    next = now + SECOND;
-    while (!is_done()) {
-        step_all();
-        now = ends_next();
-        while (now >= next && !is_done()) {
-            next += SECOND;
-            pass_second();
-        }
-    }
-    end();
 }
 
 /* ---- */

@@ -5,65 +5,44 @@
 
 enum { BUCKETS = 1 << 14, ALIGNED = 16 };
 
-/* A block, before its bytes: in the list of its party, and in a table of all by their addresses. */
-struct block {
-    struct block *before, *after, *other;
-    size_t size;
-    int party;
-    int filler;
-    uint64_t aligned;
-};
+/* A block, before its bytes, which are aligned: in a table of all by their addresses. */
+struct block { struct block *other; size_t size; int64_t party; uint64_t filler; };
 
 size_t memory_of[PARTIES];
-static struct block *first[PARTIES], *buckets[BUCKETS];
+static struct block *buckets[BUCKETS];
 
 void __real_free(void *at);
 
 /* ---- All blocks */
 
-static struct block **bucket_of(const void *at)
-{
-    return &buckets[(uintptr_t)at / ALIGNED % BUCKETS];
-}
-
 /* Where the block of these bytes is known from; what it points to is NULL if it is none of these blocks. */
 static struct block **place_of(const void *at)
 {
-    struct block **place = bucket_of(at);
+    struct block **place = &buckets[(uintptr_t)at / ALIGNED % BUCKETS];
     while (*place != NULL && (const void *)(*place + 1) != at)
         place = &(*place)->other;
     return place;
-}
-
-static void add_block(struct block *it, size_t size)
-{
-    struct block **bucket = bucket_of(it + 1);
-    *it = (struct block){ .after = first[running], .other = *bucket, .size = size, .party = running };
-    if (it->after != NULL)
-        it->after->before = it;
-    first[running] = it;
-    *bucket = it;
-    memory_of[running] += size;
 }
 
 static void remove_block(struct block **place)
 {
     struct block *it = *place;
     *place = it->other;
-    if (it->after != NULL)
-        it->after->before = it->before;
-    if (it->before != NULL)
-        it->before->after = it->after;
-    else
-        first[it->party] = it->after;
     memory_of[it->party] -= it->size;
     __real_free(it);
 }
 
 void memory_free(int party)
 {
-    while (first[party] != NULL)
-        remove_block(place_of(first[party] + 1));
+    unsigned i;
+    for (i = 0; i < BUCKETS; i++) {
+        struct block **place = &buckets[i];
+        while (*place != NULL)
+            if ((*place)->party == party)
+                remove_block(place);
+            else
+                place = &(*place)->other;
+    }
 }
 
 /* ---- The calls */
@@ -79,10 +58,13 @@ static int fails(void)
 
 WRAPPED(void *, malloc, size_t size)
 {
-    struct block *it = fails() ? NULL : __real_malloc(sizeof *it + size);
+    struct block *it = fails() ? NULL : __real_malloc(sizeof *it + size), **place;
     if (it == NULL)
         return NULL;
-    add_block(it, size);
+    place = place_of(it + 1);
+    *it = (struct block){ .size = size, .party = running };
+    *place = it;
+    memory_of[running] += size;
     return it + 1;
 }
 

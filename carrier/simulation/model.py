@@ -188,16 +188,9 @@ class Sending:
         return Publish(self.sent - count, count)
 
     def wake_time(self, count: int, room: int, now: int) -> int:
-        ends = [NEVER]
-        if room == 0:
-            ends.append(Pause(now, ROOM).end())
-        if count > 0 and self.ask is not None:
-            ends.append(self.ask.end())
-        if self.carried < self.sent:
-            ends.append(self.again.end())
-        if self.done < self.carried and planted != "no probes":
-            ends.append(self.probe.end())
-        return min(ends)
+        pauses = ((room == 0, Pause(now, ROOM)), (count > 0, self.ask), (self.carried < self.sent, self.again),
+                  (self.done < self.carried and planted != "no probes", self.probe))
+        return min([NEVER, *(pause.end() for is_under_way, pause in pauses if is_under_way and pause)])
 
     @property
     def is_settled(self) -> bool:
@@ -257,13 +250,9 @@ class Receiving:
         return Outcome.EARLY if opened > number else Outcome.UNSETTLED
 
     def owes(self, outcome: Outcome) -> Optional[Asks]:
-        if outcome == Outcome.ACCEPTED:
-            return Asks.NOTHING
-        if outcome == Outcome.REPEAT:
-            return self.owed or Asks.NOTHING
-        if outcome == Outcome.EARLY:
-            return Asks.REFUSED if self.owed == Asks.REFUSED else Asks.MISSING
-        return Asks.REFUSED if outcome == Outcome.UNSETTLED else self.owed
+        early = Asks.REFUSED if self.owed == Asks.REFUSED else Asks.MISSING
+        return {Outcome.ACCEPTED: Asks.NOTHING, Outcome.REPEAT: self.owed or Asks.NOTHING, Outcome.EARLY: early,
+                Outcome.UNSETTLED: Asks.REFUSED}.get(outcome, self.owed)
 
     def stored(self) -> None:
         self.row, self.is_open = self.drafted, False

@@ -1,6 +1,6 @@
-/* The parties of a run, the shipped senders and receivers, in one thread and in virtual time; and what the ports of carrier/ do
- * to them: the faults at each, and what was seen there. One party runs at a time, until it waits; each has its own memory and
- * its own databases, so that it can be killed within any call of a port. */
+/* The parties of a run, the shipped senders and receivers, in one thread and in virtual time; and what the ports of
+ * carrier/ do to them: the faults at each, and what was seen there. One party runs at a time, until it waits; each has
+ * its own memory and its own databases, so that it can be killed within any call of a port. */
 #ifndef PORTS_H
 #define PORTS_H
 
@@ -40,8 +40,8 @@ extern uint64_t now;
 uint64_t moment(void);
 void spend(uint64_t nanoseconds);
 
-/* Numbers that follow from a seed, the same on each machine: one below a limit, which isn't 0. Those of the run's seed; 1 in so
- * many of a thousand cases, else 0. */
+/* Numbers that follow from a seed, the same on each machine: one below a limit, which isn't 0. Those of the run's seed;
+ * 1 in so many of a thousand cases, else 0. */
 uint64_t chance_below(uint64_t *state, uint64_t limit);
 extern uint64_t chance;
 unsigned drawn(unsigned below);
@@ -138,10 +138,8 @@ int engine_plant(const char *text);
 
 /* ---- Effects (refusing.c) */
 
+/* Texts that are refused until a moment: by a constraint, or by another error. */
 struct poison { unsigned name, serial; int is_error; uint64_t until; };
-
-/* A text is refused until this moment: by a constraint, or by another error. The first one, or NULL. */
-void effects_poison(struct poison it);
-const struct poison *effects_first_poison(void);
+extern struct poisons { unsigned count; struct poison at[MOST_POISONS]; } poisons;
 
 #endif

@@ -12,31 +12,14 @@ static const char constraint[] = "INSERT INTO aside (session) VALUES (NULL)";
 static const char error[] = "INSERT INTO aside (session, number, part, text, client, stream, reason)"
                             " SELECT 's', 0, 0, x'', '', '', json_extract('x{', '$')";
 
-static struct poison poisons[MOST_POISONS];
-static unsigned count;
-
-void effects_poison(struct poison it)
-{
-    if (count < MOST_POISONS)
-        poisons[count++] = it;
-}
-
-const struct poison *effects_first_poison(void)
-{
-    return count > 0 ? &poisons[0] : NULL;
-}
-
-static enum kind kind_of_poison(void)
-{
-    return has(KIND_REFUSED_MANY) ? KIND_REFUSED_MANY : has(KIND_REFUSED) ? KIND_REFUSED : KIND_REFUSED_A_WHILE;
-}
+struct poisons poisons;
 
 static const struct poison *poison_of(unsigned name, unsigned serial)
 {
     unsigned i;
-    for (i = 0; i < count; i++)
-        if (poisons[i].name == name && poisons[i].serial == serial && now < poisons[i].until)
-            return &poisons[i];
+    for (i = 0; i < poisons.count; i++)
+        if (poisons.at[i].name == name && poisons.at[i].serial == serial && now < poisons.at[i].until)
+            return &poisons.at[i];
     return NULL;
 }
 
@@ -64,7 +47,7 @@ WRAPPED(int, take_effect, struct store *store, const struct arrived *it)
     be_slow();
     if (poison == NULL)
         return __real_take_effect(store, it);
-    happened(kind_of_poison(), 1);
+    happened(has(KIND_REFUSED_MANY) ? KIND_REFUSED_MANY : has(KIND_REFUSED) ? KIND_REFUSED : KIND_REFUSED_A_WHILE, 1);
     (void)store_run(store, poison->is_error ? error : constraint, NULL, 0); /* the store refuses both */
     return -1;
 }

@@ -186,12 +186,6 @@ static int take_said(void *given, int count, char **values, char **names)
     return 0;
 }
 
-static void look_at_said(struct box *it)
-{
-    (void)box_run(it, "SELECT session, reason, 0 FROM stopped", take_said, NULL); /* they can be read */
-    (void)box_run(it, "SELECT name, NULL, stands FROM session WHERE stands != 0", take_said, NULL);
-}
-
 /* Each text is in its outbox, or it had its outcome. Answers how many of them had none. */
 static unsigned look_at_texts(const struct box *of, unsigned name)
 {
@@ -266,7 +260,8 @@ static void look_at_boxes(int with_texts, int is_end)
         world.name[i].said = world.name[i].stands = 0;
     for (i = 0; i < BOXES; i++)
         if (world.boxes[i].is_used)
-            look_at_said(&world.boxes[i]);
+            (void)box_run(&world.boxes[i], "SELECT session, reason, 0 FROM stopped UNION ALL"
+                          " SELECT name, NULL, stands FROM session WHERE stands != 0", take_said, NULL); /* it can be read */
     for (i = 0; i < BOXES && with_texts; i++)
         if (world.boxes[i].is_used)
             look_at_box(&world.boxes[i], is_end && i == 0);
@@ -274,43 +269,43 @@ static void look_at_boxes(int with_texts, int is_end)
 
 /* ---- What it costs */
 
-static void look_at_frames(unsigned name)
+/* Other texts than the refused one are run again for a fault, or where a program ended, and not for the refused one. */
+static void look_at_costs(unsigned name)
 {
-    unsigned long most = (unsigned long)FRAMES_OF_A_TEXT * world.name[name].serials
-                         + FRAMES_OF_A_SECOND * world.second + FRAMES;
-    if (seen.published[name] <= most)
-        return;
-    world.is_flooded = 1;
-    rule_broken(RULE_FLOOD, "s%u: %lu frames were published for %u texts", name, seen.published[name],
-                world.name[name].serials);
+    const struct name *it = &world.name[name];
+    unsigned long frames = (unsigned long)FRAMES_OF_A_TEXT * it->serials + FRAMES_OF_A_SECOND * world.second + FRAMES;
+    unsigned long causes = faults.of_stores + world.kills + world.stops + world.ends;
+    unsigned long most = EFFECTS + EFFECTS_OF_A_FAULT * (has(KIND_SLOW_EFFECTS) ? causes - world.kills : causes);
+    unsigned i;
+    if (seen.published[name] > frames) {
+        world.is_flooded = 1;
+        rule_broken(RULE_FLOOD, "s%u: %lu frames were published for %u texts", name, seen.published[name], it->serials);
+    }
+    for (i = 0; i < it->serials && !(poisons.count > 0 && poisons.at[0].name == name); i++)
+        if (seen.runs[name][i] > most)
+            rule_broken(RULE_REPEATED, "the effect of s%u text %u was run %u times, with %lu kills and faults, %lu by the"
+                        " watchdog", name, i, seen.runs[name][i], causes, seen.watchdogs);
 }
 
-static void look_at_calls(void)
+/* What was seen of the ports in this second. The carrier confirms what it takes at once: the rest is under way. */
+static void look_at_ports(void)
 {
     int i;
-    for (i = SENDER; i < PARTIES; i++)
+    for (i = SENDER; i < PARTIES; i++) {
         if (seen.second.answered[i] == 0 && seen.second.looks[i] > VAIN_LOOKS)
             rule_broken(RULE_SPINS, "a sender looked %u times for receipts in a second, and was never answered",
                         seen.second.looks[i]);
+        if (memory_of[i] > MOST_BYTES)
+            rule_broken(RULE_LEAKS, "program %d has %lu bytes", i, (unsigned long)memory_of[i]);
+    }
+    for (i = 0; i < SHARDS && has(KIND_MANY); i++)
+        if (seen.second.under_way[i] > UNDER_WAY)
+            rule_broken(RULE_CROWDED, "%lu frames left for a shard in a second, and weren't confirmed",
+                        seen.second.under_way[i]);
     if (seen.second.calls <= CALLS)
         return;
     rule_broken(RULE_SPINS, "%lu calls of SQL in a second", seen.second.calls);
     world.is_flooded |= ++spinning > SPINNING;
-}
-
-/* Other texts than the refused one are run again for a fault, or where a program ended, and not for the refused one. */
-static void look_at_runs(unsigned name)
-{
-    const struct poison *poison = effects_first_poison();
-    unsigned long causes = faults.of_stores + world.kills + world.stops + world.ends;
-    unsigned long most = EFFECTS + EFFECTS_OF_A_FAULT * (has(KIND_SLOW_EFFECTS) ? causes - world.kills : causes);
-    unsigned i;
-    if (poison != NULL && poison->name == name)
-        return;
-    for (i = 0; i < world.name[name].serials; i++)
-        if (seen.runs[name][i] > most)
-            rule_broken(RULE_REPEATED, "the effect of s%u text %u was run %u times, with %lu kills and faults, %lu by the"
-                        " watchdog", name, i, seen.runs[name][i], causes, seen.watchdogs);
 }
 
 /* ---- What is known of a calm run */
@@ -325,6 +320,8 @@ static void look_at_repeats(unsigned name)
     }
     if (again > MOST_AGAIN)
         rule_broken(RULE_FLOOD, "s%u: %u frames left more than %u times in a calm run", name, again, most);
+    if (seen.second.receipts[name] > RECEIPTS)
+        rule_broken(RULE_CHATTER, "s%u has %u receipts in a second", name, seen.second.receipts[name]);
 }
 
 /* Whether the outbox says of a session what is so. */
@@ -337,17 +334,6 @@ static void look_at_stands(struct name *it, unsigned name)
     if (has(KIND_SKEWED) && !has(KIND_SILENT) && !is_stream(name) && world.second == REFUSED_UNTIL && it->serials > 0
         && it->outcome[last] == NOTHING_YET && it->put_at[last] < REFUSED_FROM && !it->was_refused)
         rule_broken(RULE_UNTRUE, "receivers refused s%u, and the outbox has never said so", name);
-}
-
-static void look_at_calm(void)
-{
-    unsigned name;
-    for (name = 0; name < world.names; name++) {
-        if (seen.second.receipts[name] > RECEIPTS)
-            rule_broken(RULE_CHATTER, "s%u has %u receipts in a second", name, seen.second.receipts[name]);
-        look_at_repeats(name);
-        look_at_stands(&world.name[name], name);
-    }
 }
 
 static int take_number(void *given, int count, char **values, char **names)
@@ -380,16 +366,6 @@ static void look_at_rest(void)
             rule_broken(RULE_KEPT, "the carrier has receipts of %u sessions of s%u", frames_receipts_kept(name), name);
 }
 
-/* The carrier confirms what it takes at once: the rest is under way. */
-static void look_at_room(void)
-{
-    unsigned i;
-    for (i = 0; i < SHARDS && has(KIND_MANY); i++)
-        if (seen.second.under_way[i] > UNDER_WAY)
-            rule_broken(RULE_CROWDED, "%lu frames left for a shard in a second, and weren't confirmed",
-                        seen.second.under_way[i]);
-}
-
 /* ---- What is said of it */
 
 static void look_at_health(void)
@@ -407,9 +383,9 @@ static void look_at_health(void)
 
 static void look_at_refused(void)
 {
-    const struct poison *it = effects_first_poison();
-    unsigned runs = it != NULL ? seen.runs[it->name][it->serial] : 0;
-    if (it == NULL || it->until != UINT64_MAX || world.name[it->name].outcome[it->serial] != NOTHING_YET || runs <= TRIES)
+    const struct poison *it = &poisons.at[0];
+    unsigned runs = seen.runs[it->name][it->serial];
+    if (poisons.count == 0 || it->until != UINT64_MAX || world.name[it->name].outcome[it->serial] != NOTHING_YET || runs <= TRIES)
         return;
     if (seen.refused == 0)
         rule_broken(RULE_UNNAMED, "s%u has a text that is refused, and no line of a receiver's log names it", it->name);
@@ -425,17 +401,14 @@ void rules_second(void)
     look_at_effects();
     look_at_boxes(world.second % LOOKED_EACH == 0 || (has(KIND_FORKED) && world.second < world.disturbed), 0);
     for (i = 0; i < world.names; i++) {
-        look_at_frames(i);
-        look_at_runs(i);
+        look_at_costs(i);
+        if (is_calm()) {
+            look_at_repeats(i);
+            look_at_stands(&world.name[i], i);
+        }
     }
-    look_at_calls();
+    look_at_ports();
     look_at_health();
-    look_at_room();
-    if (is_calm())
-        look_at_calm();
-    for (i = SENDER; i < PARTIES; i++)
-        if (memory_of[i] > MOST_BYTES)
-            rule_broken(RULE_LEAKS, "program %u has %lu bytes", i, (unsigned long)memory_of[i]);
     memset(&seen.second, 0, sizeof seen.second);
 }
 

@@ -20,12 +20,11 @@ int has_been_faulty(void)
 /* A line names the refused session, unless it says that all of them stand. */
 static int names_refused(enum level level, const struct field *fields)
 {
-    const struct poison *poison = effects_first_poison();
     const struct field *it;
-    if (poison == NULL || level == LEVEL_INFO || is_sender(running))
+    if (poisons.count == 0 || level == LEVEL_INFO || is_sender(running))
         return 0;
     for (it = fields; it->kind != FIELD_END; it++)
-        if (it->kind == FIELD_TEXT && strcmp(it->key, "session") == 0 && name_of(it->text) == poison->name)
+        if (it->kind == FIELD_TEXT && strcmp(it->key, "session") == 0 && name_of(it->text) == poisons.at[0].name)
             return 1;
     return 0;
 }

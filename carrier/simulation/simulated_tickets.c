@@ -59,7 +59,8 @@ int at_rest_read(struct kerberos *kerberos, int usage, const char *about, const 
                  uint8_t key[SESSION_KEY], size_t *len)
 {
     uint64_t digest = digest_of(about, strlen(about));
-    if (!can_read_keys() || from->len < DIGEST || from->len > DIGEST + SESSION_KEY || memcmp(&digest, from->bytes, DIGEST) != 0)
+    if (!can_read_keys() || from->len < DIGEST || from->len > DIGEST + SESSION_KEY
+        || memcmp(&digest, from->bytes, DIGEST) != 0)
         return -1;
     *len = from->len - DIGEST;
     memcpy(key, from->bytes + DIGEST, *len);

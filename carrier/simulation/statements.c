@@ -32,21 +32,18 @@ static struct open *open_of(const sqlite3 *db)
     return &none;
 }
 
-static void close_one(struct open *it)
-{
-    sqlite3_stmt *statement;
-    while ((statement = sqlite3_next_stmt(it->db, NULL)) != NULL)
-        sqlite3_finalize(statement);
-    (void)__real_sqlite3_close(it->db); /* it has no statement */
-    *it = (struct open){ 0 };
-}
-
 void statements_close(int party)
 {
-    unsigned i;
-    for (i = 0; i < DATABASES; i++)
-        if (opened[party][i].db != NULL)
-            close_one(&opened[party][i]);
+    sqlite3_stmt *statement;
+    struct open *it;
+    for (it = opened[party]; it < opened[party] + DATABASES; it++) {
+        if (it->db == NULL)
+            continue;
+        while ((statement = sqlite3_next_stmt(it->db, NULL)) != NULL)
+            sqlite3_finalize(statement);
+        (void)__real_sqlite3_close(it->db); /* it has no statement */
+        *it = (struct open){ 0 };
+    }
 }
 
 const char *statements_one(int of_receivers, unsigned which)

@@ -99,10 +99,9 @@ void ends_hold(int party, uint64_t until);
 /* The carrier tells that something came; else its calls wait for it. */
 int has_file(void);
 
-/* ---- events.c: what happens in a second that is disturbed; the world is fair; what a copy of an outbox knew */
+/* ---- events.c: what happens in this second */
 
 void events_second(void);
-void events_end(void);
 
 /* ---- rules.c */
 
