@@ -47,6 +47,7 @@ int engine_plant(const char *text)
 
 /* ---- The sessions of a sender's lanes */
 
+/* What is seen of a session. */
 struct place {
     uint64_t since, order;      /* it waits since this turn of the lane (0: it doesn't), as this one of all that did */
     uint64_t overtaken;         /* so many that waited for less long were served before it */

@@ -153,19 +153,9 @@ static void stop_receivers(unsigned seconds)
             ends_stop(party, 1, seconds > 0 ? now + seconds * SECOND + drawn(1000) * MILLISECOND : now);
 }
 
-/* With a bound, no receiver runs for a while, and the outbox becomes full. */
-static void bound_outbox(void)
-{
-    int party;
-    if (world.second != BOUNDED_FROM && world.second != BOUNDED_UNTIL)
-        return;
-    stop_receivers(0);
-    for (party = RECEIVER; party < PARTIES; party++)
-        world.may_run[party] = world.second == BOUNDED_UNTIL;
-}
-
 static void stop_programs(void)
 {
+    int party;
     if (has(KIND_KILLED)) {
         kill_one(SENDER);
         kill_one(RECEIVER + (int)drawn(RECEIVERS));
@@ -174,8 +164,11 @@ static void stop_programs(void)
         hold_one(SENDER + (int)drawn(PARTIES - SENDER));
     if (has(KIND_FORKED) && has(KIND_KILLED) && is_between(FORKED, FORKED_UNTIL))
         stop_receivers(4); /* so receipts of a fork come late */
-    if (has(KIND_BOUNDED))
-        bound_outbox();
+    if (!is_time(KIND_BOUNDED, BOUNDED_FROM) && !is_time(KIND_BOUNDED, BOUNDED_UNTIL))
+        return;
+    stop_receivers(0); /* with a bound, none runs for a while, and the outbox becomes full */
+    for (party = RECEIVER; party < PARTIES; party++)
+        world.may_run[party] = world.second == BOUNDED_UNTIL;
 }
 
 /* ---- The carrier's shards and receipts */
@@ -219,28 +212,23 @@ static void find_known(struct known *known)
                   take_known, known); /* it can be read */
 }
 
-/* A session that went on since the copy, of which all that left took effect and has its receipt, has to be stopped before a
- * text of the copy takes effect. */
-static void forbid(const struct known *known)
-{
-    unsigned i;
-    for (i = 0; i < world.names; i++) {
-        struct name *it = &world.name[i];
-        if (known->next[i] <= of_copy.next[i] && !is_stream(i))
-            continue;
-        it->has_advanced = it->is_struck = 1;
-        it->is_forbidden |= !known->has_frames[i] && frames_receipts_kept(i) > 0 && !is_stream(i);
-        it->forbidden_from = it->serials;
-    }
-}
-
+/* A session that went on since the copy, of which all that left took effect and has its receipt, has to be stopped before
+ * a text of the copy takes effect. */
 static void restore_outbox(void)
 {
     struct known known;
+    unsigned i;
     happened(KIND_RESTORED, 1);
     find_known(&known);
     ends_stop(SENDER, 1, now);
-    forbid(&known);
+    for (i = 0; i < world.names; i++) {
+        struct name *it = &world.name[i];
+        if (known.next[i] <= of_copy.next[i] && !is_stream(i))
+            continue;
+        it->has_advanced = it->is_struck = 1;
+        it->is_forbidden |= !known.has_frames[i] && frames_receipts_kept(i) > 0 && !is_stream(i);
+        it->forbidden_from = it->serials;
+    }
     box_close(&world.boxes[0]);
     box_copy(&world.boxes[0], &world.saved);
     box_close(&world.saved);
@@ -276,22 +264,18 @@ static void use_copies(void)
 
 /* ---- The file of sessions */
 
-static void move_lines(void)
-{
-    unsigned i;
-    for (i = 0; world.second == MOVED && i < world.names; i++)
-        world.name[i].shard ^= drawn(2);
-    world.name[drawn(world.names)].shard ^= 1;
-    happened(KIND_MOVED, 1);
-}
-
 static void change_sessions(void)
 {
-    int moves = has(KIND_MOVED) && world.second % MOVED_EACH == MOVED && !(has(KIND_RESTORED) && world.second >= RESTORED);
+    int moves = has(KIND_MOVED) && world.second % MOVED_EACH == MOVED
+                && !(has(KIND_RESTORED) && world.second >= RESTORED);
     int adds = has(KIND_ADDED) && world.second > ADDED_AFTER && drawn(8) == 0;
+    unsigned i;
+    for (i = 0; moves && world.second == MOVED && i < world.names; i++)
+        world.name[i].shard ^= drawn(2);
     if (moves)
-        move_lines();
+        world.name[drawn(world.names)].shard ^= 1;
     world.others += adds != 0;
+    happened(KIND_MOVED, moves != 0);
     happened(KIND_ADDED, adds != 0);
     if (!moves && !adds)
         return;

@@ -115,6 +115,8 @@ int has_been_faulty(void);
 
 /* ---- SQL of the shipped outbox and store (statements.c) */
 
+typedef int each_row(void *given, int count, char **values, char **names);
+
 /* Closes what a party has open, which rolls back what it didn't commit. */
 void statements_close(int party);
 

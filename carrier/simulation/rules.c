@@ -60,17 +60,6 @@ static int has_order(void)
     return !world.boxes[1].is_used;
 }
 
-static void see_effect(struct name *it, unsigned name, unsigned serial)
-{
-    if (has_order() && serial < it->last)
-        rule_broken(RULE_OVERTAKEN, "s%u text %u took effect after text %u", name, serial, it->last);
-    if (it->is_forbidden && serial >= it->forbidden_from)
-        rule_broken(RULE_LEFT_OUT, "s%u text %u of a restored outbox took effect, %s", name, serial,
-                    it->was_stopped ? "after the session was stopped" : "and nobody has said that the outbox is older");
-    if (serial > it->last)
-        it->last = serial;
-}
-
 static void see(enum outcome outcome, char **values)
 {
     unsigned name = name_of(values[2][0] != 0 ? values[2] : values[1]);
@@ -87,8 +76,14 @@ static void see(enum outcome outcome, char **values)
     if (outcome == PUT_ASIDE && seen.runs[name][serial] < TRIES)
         rule_broken(RULE_ASIDE_EARLY, "s%u text %u was put aside after %u tries", name, serial, seen.runs[name][serial]);
     it->took_in[serial] = digest_of(values[1], strlen(values[1]));
-    if (outcome == TOOK_EFFECT)
-        see_effect(it, name, serial);
+    if (outcome != TOOK_EFFECT)
+        return;
+    if (has_order() && serial < it->last)
+        rule_broken(RULE_OVERTAKEN, "s%u text %u took effect after text %u", name, serial, it->last);
+    if (it->is_forbidden && serial >= it->forbidden_from)
+        rule_broken(RULE_LEFT_OUT, "s%u text %u of a restored outbox took effect, %s", name, serial,
+                    it->was_stopped ? "after the session was stopped" : "and nobody has said that the outbox is older");
+    it->last = serial > it->last ? serial : it->last;
 }
 
 /* A table of a shard's store: what its rows are the outcome of, and the last one that was seen. */

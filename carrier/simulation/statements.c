@@ -9,7 +9,6 @@ enum { DATABASES = 8, SEEN = 96, SEEN_LENGTH = 100 };
 #define COST (SECOND / 100000) /* of a call: without it a loop would take no time */
 #define BUSY (10 * SECOND)     /* that a call waits for a file that is locked */
 
-typedef int each_row(void *given, int count, char **values, char **names);
 int __real_sqlite3_close(sqlite3 *db);
 
 /* What each party has open, and with which code its last call failed by a fault of these; 0: by none. */

@@ -77,7 +77,6 @@ void box_copy(struct box *to, const struct box *from);
 int box_is_done(const struct box *it);
 
 /* Runs statements of its application; rows are passed on. */
-typedef int each_row(void *given, int count, char **values, char **names);
 int box_run(struct box *it, const char *sql, each_row *take, void *given);
 
 /* ---- ends.c: the shipped programs */

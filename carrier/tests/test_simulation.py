@@ -86,3 +86,11 @@ def test_a_mutant_is_found(program, name):
 @pytest.mark.parametrize("name", plants.MADE_UP)
 def test_another_rule_makes_up(name):
     assert simulate.breaks_made_up(simulate.library(), name) == set()
+
+
+@pytest.mark.parametrize("name", [it for it in plants.MADE_UP if not simulate.edits_of(it)])
+def test_what_another_rule_makes_up_for_happens(program, name):
+    """In each of its profiles: that no rule is broken says nothing where the fault has no effect."""
+    for row in [profiles.Row(it, simulate.FEW) for it in plants.MADE_UP[name][1]]:
+        with_it, without = (simulate.run(program, [row], JOBS, plant=plant) for plant in (name, ""))
+        assert (with_it.steps, with_it.counts) != (without.steps, without.counts), row.profile
