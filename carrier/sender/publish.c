@@ -267,6 +267,17 @@ int publish_all(struct sender *s)
     return left >= LEFT;
 }
 
+/* A lane without sessions has no turn before; and where no session has anything to do, its last one may be long ago. */
+enum krbrelay_answer publish_set_time(struct sender *s, struct lane *lane)
+{
+    enum krbrelay_answer answer = KRBRELAY_OK;
+    if (lane->members.count == 0)
+        answer = krbrelay_lane_listed(&lane->ends, 0, 0); /* makes the lane */
+    if (answer == KRBRELAY_OK && lane->undone == 0)
+        (void)serve_lane(s, lane); /* nothing leaves */
+    return answer;
+}
+
 /* A shard whose list can't be had is asked for again with the next round. */
 uint64_t publish_next_time(struct sender *s)
 {

@@ -186,6 +186,9 @@ void texts_give_up(struct sender *s, sqlite3_int64 seen);
 /* Does what krb_sender says of sessions whose turn it is. 1 if more wait for theirs. */
 int publish_all(struct sender *s);
 
+/* A session of the lane is loaded: its pauses begin at the time of the lane's last turn, which is now. KRBRELAY_MEMORY. */
+enum krbrelay_answer publish_set_time(struct sender *s, struct lane *lane);
+
 /* When a session has its turn again, if nothing comes before, in milliseconds. */
 uint64_t publish_next_time(struct sender *s);
 

@@ -82,8 +82,10 @@ static enum krbrelay_answer load_end(struct sender *s, const struct sending *it)
     int is_elsewhere = kept->shard >= 0 && kept->shard != (int32_t)it->of.shard;
     struct krbrelay_stored row = { .next = kept->next, .carried = kept->carried, .at = kept->at, .done = kept->done,
                                    .list = is_elsewhere ? 0 : kept->incarnation };
-    enum krbrelay_answer answer;
+    enum krbrelay_answer answer = publish_set_time(s, lane);
     uint32_t place = 0;
+    if (answer != KRBRELAY_OK)
+        return answer;
     if (it->place < lane->members.count || lane->has_spare)
         return krbrelay_lane_reload(&lane->ends, it->place, &row, it->begun != NULL);
     answer = krbrelay_lane_add(&lane->ends, &row, it->begun != NULL, &place);

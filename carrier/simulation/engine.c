@@ -53,6 +53,7 @@ struct place {
     uint64_t overtaken;         /* so many that waited for less long were served before it */
     uint64_t left, left_at;     /* frames below this number have left, the last one for the first time at this moment */
     uint64_t kept;              /* frames that were sealed, and the lane isn't told yet */
+    uint64_t loaded;            /* when the program loaded it */
     struct krbrelay_stored row; /* as it was seen last */
     uint32_t opens, is_stopped;
 };
@@ -89,7 +90,7 @@ WRAPPED(enum krbrelay_answer, krbrelay_lane_add, struct krbrelay_lane *handle, c
 {
     enum krbrelay_answer answer = __real_krbrelay_lane_add(handle, row, opens, place);
     if (answer == KRBRELAY_OK) {
-        *place_of(handle, *place) = (struct place){ .row = *row, .opens = opens };
+        *place_of(handle, *place) = (struct place){ .row = *row, .opens = opens, .loaded = milliseconds() };
         lane_of(handle)->count = *place < PLACES ? *place + 1 : PLACES;
     }
     return answer;
@@ -98,7 +99,7 @@ WRAPPED(enum krbrelay_answer, krbrelay_lane_add, struct krbrelay_lane *handle, c
 WRAPPED(enum krbrelay_answer, krbrelay_lane_reload, struct krbrelay_lane *handle, uint32_t place,
         const struct krbrelay_stored *row, uint32_t opens)
 {
-    *place_of(handle, place) = (struct place){ .row = *row, .opens = opens };
+    *place_of(handle, place) = (struct place){ .row = *row, .opens = opens, .loaded = milliseconds() };
     return __real_krbrelay_lane_reload(handle, place, row, opens);
 }
 
@@ -159,6 +160,8 @@ static void note_turn(const struct krbrelay_lane *handle, const struct krbrelay_
     of->turns += leaves != 0;
     if (it->since > 0 && of->turns > it->since + MOST_TURNS)
         rule_broken(RULE_UNFAIR, "a session's turn came after more than %d of others", MOST_TURNS);
+    if (served->command.kind == KRBRELAY_COMMAND_PROBE && milliseconds() < it->loaded + PROBE / 2)
+        rule_broken(RULE_FLOOD, "a session that was loaded now doesn't wait for its receipt");
     if (!leaves || it->since == 0 || served->command.number < it->left)
         return;
     for (other = of->at; other < of->at + of->count; other++)

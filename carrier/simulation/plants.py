@@ -46,7 +46,7 @@ OPENING_FORKED;
 OPENING_OK;
     }
     return OPENING_OK"""), ("store.c", "client,", "name, client,")),
-    "rows aren't compared": ("moved+stopped+bursts", 23, "DOUBLED", ("sqlite_store.c", """\
+    "rows aren't compared": ("moved+stopped+bursts", 76, "DOUBLED", ("sqlite_store.c", """\
 next = ?7 AND closed = ?8 AND missed = ?9 AND at = ?10"
                       " AND shard = ?11""", """\
 ?7 IS NOT NULL AND ?8 IS NOT NULL AND ?9 IS NOT NULL"
