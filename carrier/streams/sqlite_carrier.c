@@ -158,8 +158,20 @@ static void seek(struct carrier *base, unsigned shard, uint64_t offset)
     c->after = offset;
 }
 
-/* Copies the frame of a row after the first `used` bytes; -1 where there is no room. A fetch's
- * first frame has room unless memory is out. */
+/* Room for a fetch's first frame, which may be longer than those before. */
+static int grow(struct sqlite_carrier *c, size_t len)
+{
+    uint8_t *more = realloc(c->frames, len);
+    if (more == NULL) {
+        log_system("out_of_memory", "carrier");
+        return -1;
+    }
+    c->frames = more;
+    c->room = len;
+    return 0;
+}
+
+/* Copies the frame of a row after the first `used` bytes; -1 where there is no room, or a fault, which is reported. */
 static int copy_row(struct sqlite_carrier *c, const struct statement *select, struct carried *it,
                     size_t used)
 {
@@ -168,13 +180,8 @@ static int copy_row(struct sqlite_carrier *c, const struct statement *select, st
     it->len = (size_t)sqlite3_column_bytes(select->at, 2);
     if (check_columns(select) != 0)
         return -1;
-    if (it->len > c->room - used) {
-        uint8_t *more = used > 0 ? NULL : realloc(c->frames, it->len);
-        if (more == NULL)
-            return -1;
-        c->frames = more;
-        c->room = it->len;
-    }
+    if (it->len > c->room - used && (used > 0 || grow(c, it->len) != 0))
+        return -1;
     it->offset = (uint64_t)sqlite3_column_int64(select->at, 0);
     copy_cut(it->session, sizeof it->session, session);
     it->frame = c->frames + used;
@@ -202,7 +209,7 @@ static int fetch(struct carrier *base, struct carried *list, size_t limit, int m
     end_rows(select);
     if (count > 0)
         c->after = list[count - 1].offset;
-    return count > 0 || row >= 0 ? count : -1;
+    return count > 0 || row == 0 ? count : CARRIER_FAULT; /* a row that isn't copied isn't that nothing came */
 }
 
 static int behind(struct carrier *base, uint64_t *frames)

@@ -2,11 +2,20 @@
  * It needs shards 900 and 901 that are empty. */
 #include "carrier.h"
 #include "check.h"
+#include "wrapped.h"
 
 #include <string.h>
 #include <sys/stat.h>
 
-enum { FRAMES = 500, PATIENCE = 100, SHARD = 900 };
+enum { FRAMES = 500, PATIENCE = 100, SHARD = 900, LONG = 3 << 19 };
+
+static int is_out_of_memory; /* no block grows */
+
+WRAPPED(realloc);
+void *__wrap_realloc(void *at, size_t size)
+{
+    return is_out_of_memory ? NULL : __real_realloc(at, size);
+}
 
 static uint64_t offsets[FRAMES]; /* of each frame */
 
@@ -110,6 +119,20 @@ static void check_shards(struct carrier *c, struct carrier *reader)
     check(reader->behind(reader, &behind) == 0 && behind == 0, "nothing stands after the end");
 }
 
+/* Without memory for a frame, a fetch fails: it doesn't answer that nothing came. */
+static void check_out_of_memory(struct carrier *c, struct carrier *reader)
+{
+    static const uint8_t frame[LONG];
+    struct confirmed of[1];
+    struct carried list[1];
+    check(c->publish(c, SHARD, "tom-7", 1, 1, frame, LONG) == 0 && c->confirmed(c, of, 1, 100) == 1, "a long frame");
+    reader->seek(reader, SHARD, of[0].offset - 1);
+    is_out_of_memory = 1;
+    check(reader->fetch(reader, list, 1, 100) == CARRIER_FAULT, "it has no memory");
+    is_out_of_memory = 0;
+    check(reader->fetch(reader, list, 1, 100) == 1 && list[0].len == LONG, "and the next one has it");
+}
+
 int main(int count, char **words)
 {
     struct carrier_options options = { .replicas = count > 2 ? (unsigned)atoi(words[2]) : 1 };
@@ -133,6 +156,8 @@ int main(int count, char **words)
     for (i = 101; i + 2 < FRAMES; i += 101)
         RUN(read_from(reader, i + 2, offsets[i]));
     RUN(check_shards(c, reader));
+    if (reader->file != NULL)
+        RUN(check_out_of_memory(c, reader));
     c->close(c);
     reader->close(reader);
     return check_status("carrier_test");
