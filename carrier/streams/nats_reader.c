@@ -206,11 +206,11 @@ int nats_fetch(struct carrier *base, struct carried *list, size_t room, int mill
         status = fetch_one(c, &list[count], count == 0 ? milliseconds : 0, &has_frame);
         count += has_frame;
     }
-    if (status != NATS_OK && status != NATS_TIMEOUT) {
-        nats_leave(c, &c->reader); /* what was fetched stays held */
-        (void)nats_report("a reader begins again after what it had", status); /* it is no fault of this fetch */
-    }
-    return count;
+    if (status == NATS_OK || status == NATS_TIMEOUT)
+        return count;
+    nats_leave(c, &c->reader); /* what was fetched stays held */
+    answer = nats_report("a reader begins again after what it had", status);
+    return count > 0 ? count : answer;
 }
 
 int nats_behind(struct carrier *base, uint64_t *frames)
