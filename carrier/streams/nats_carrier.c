@@ -12,7 +12,8 @@
 enum {
     RECONNECT = 200, /* milliseconds between tries, */
     AWAY = 10000,    /* and between two lines that say why there is no connection */
-    SILENT = 2000,   /* milliseconds after which a server that doesn't answer or read is left */
+    SILENT = 2000,   /* milliseconds after which a server that doesn't answer or read is left, and without a server after
+                      * which that is said */
     FLUSHED = 500,   /* milliseconds that what was published has to leave at the end */
     STEP = 500,      /* milliseconds by which the wall clock may be set back, and nothing is done */
     SERVERS = 16,    /* the most servers of a name */
@@ -31,15 +32,20 @@ static int is_away(struct carrier *base)
     return natsConnection_Status(((struct nats_carrier *)base)->connection) != NATS_CONN_STATUS_CONNECTED;
 }
 
-/* Says each ten seconds why there is no connection, such as that a certificate has expired. */
+/* Says each ten seconds why there is no connection, such as that a certificate has expired. Where nothing answers at an
+ * address, libnats has no error of the connection. */
 static void report_away(struct nats_carrier *c)
 {
     const char *detail = NULL;
     natsStatus status = natsConnection_GetLastError(c->connection, &detail);
-    if (!is_away(&c->base) || status == NATS_OK || milliseconds() - c->told_away < AWAY)
+    uint64_t now = milliseconds();
+    if (!is_away(&c->base))
+        c->connected = now;
+    if (now - c->connected < SILENT || now - c->told_away < AWAY)
         return;
-    c->told_away = milliseconds();
-    log_fact(LEVEL_WARNING, "carrier_away", field_text("fault", natsStatus_GetText(status)),
+    c->told_away = now;
+    log_fact(LEVEL_WARNING, "carrier_away",
+             field_text("fault", natsStatus_GetText(status == NATS_OK ? NATS_NO_SERVER : status)),
              field_text("detail", c->has_password || detail == NULL ? "" : detail),
              field_text("text", "there is no connection now: another one is tried all the time"));
 }

@@ -55,7 +55,8 @@ struct nats_carrier {
     struct krbrelay_pause first;        /* a receiver's wait so long for their stream at first */
     int has_told_replicas;              /* it was told that it has too few replicas */
     int has_password;                   /* a name of --carrier has one, so what NATS says of servers isn't printed */
-    uint64_t told_away;                 /* when it was told last why there is no connection, in milliseconds */
+    uint64_t connected, told_away;      /* when it had a connection, and when it was told last why it has none, both in
+                                         * milliseconds */
     natsSubscription *left[NATS_LEFT];  /* those that were left last: nothing comes for them any more */
     unsigned left_count;                /* so many were left */
 };

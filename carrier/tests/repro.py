@@ -477,14 +477,16 @@ def start_secured(place):
                    "tls-key": f"{place.folder}/client.key"} for name in WORDS}
 
 
-@case("the certificate of a node expires", {"ann": 1}, 20, (ANN,))
+@case("a node is killed, and comes back with a certificate that has expired", {"ann": 1}, 20, (ANN,))
 def expired(place):
-    """Both programs say so while they run and when they start, and not that no server answers."""
+    """Both programs say so while they run. When they start, they don't say that no server answers."""
     given = start_secured(place)
     place.put(texts("ann", 0, 1), given=given["sender"])
     running = [place.start(name, **given[name]) for name in given]
     place.await_delivered()
     place.nats.kill(0)
+    for it in running:
+        place.expect_logged(it, "carrier_away", "nobody says that there is no node", words="No server available")
     certify(place, "node", "-1")
     place.nats.start(0)
     expires = "certificate has expired"
@@ -556,8 +558,6 @@ def passwords(place):
     sender, _ = place.start("sender", **right), place.start("receiver", **given["receiver"])
     place.await_delivered({"ann": 1})
     place.nats.kill(0)
-    certify(place, "node", "-1")
-    place.nats.start(0)
     place.expect_logged(sender, "carrier_away", "nobody says that the carrier is away", seconds=20, detail="")
 
 
