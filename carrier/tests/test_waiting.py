@@ -3,18 +3,20 @@ each text wakes them."""
 import contextlib
 import os
 import sqlite3
+import statistics
 import subprocess
 import time
 
 import pytest
 from test_effects import both_programs, write_private
 
-SESSIONS, SHARDS = 10_000, 2
-WINDOW, MOST_A_SECOND = 5, 2    # seconds in which wakes are counted, of all threads of a program
+SESSIONS, SHARDS = 10_000, 8
+WINDOW = 5                      # seconds in which wakes are counted, of all threads of a program
+MOST_A_SECOND = 2, 3            # of a sender, and of a receiver: 1 for all shards, and each looks after 5 s
 PATIENCE = 120                  # seconds
-# Texts, each put in so many seconds after the one before took effect, when both ends look ever more rarely;
-# seconds that all of them take at most if each wakes both ends.
-ONE_BY_ONE, APART, AWAKE = 8, 1.4, 4
+# Texts, each put in so many seconds after the one before took effect, when both ends look ever more rarely; seconds
+# that most of them take at most if they wake both ends: where a text waits for a look, it takes 0.6 s or more.
+ONE_BY_ONE, APART, AWAKE = 8, 1.4, 0.5
 EFFECTS = "SELECT count(*) FROM effect"
 UNDONE = "SELECT (SELECT count(*) FROM text) + (SELECT count(*) FROM sealed)"
 SHARED = ("--sessions", "sessions", "--carrier", "sqlite:carrier.db")
@@ -22,7 +24,7 @@ SHARED = ("--sessions", "sessions", "--carrier", "sqlite:carrier.db")
 
 @pytest.fixture(scope="module")
 def programs(shared, prefix):
-    return both_programs(shared, prefix, "programs_that_wait")
+    return both_programs(shared, prefix, "programs_of_put_get")      # which the gate builds for both
 
 
 @pytest.fixture
@@ -88,16 +90,17 @@ def test_idle_programs_wake_rarely(running):
     put(folder, (f"s{i}" for i in range(SESSIONS)))
     await_so(lambda: ask(folder / "outbox.db", UNDONE) == 0)
     assert ask(folder / "store.db", EFFECTS) == SESSIONS
-    await_so(lambda: max(wakes_of_a_window(processes)) <= MOST_A_SECOND * WINDOW)
+    await_so(lambda: all(count <= most * WINDOW
+                         for count, most in zip(wakes_of_a_window(processes), MOST_A_SECOND)))
 
 
 def test_each_text_wakes_both_ends(running):
     folder, *_ = running
-    took = 0.0
+    took = []
     for count in range(ONE_BY_ONE):
         time.sleep(APART)
-        took -= time.monotonic()
+        began = time.monotonic()
         put(folder, [f"s{count}"])
         await_so(lambda wanted=count + 1: ask(folder / "store.db", EFFECTS) == wanted)
-        took += time.monotonic()
-    assert took < AWAKE
+        took.append(time.monotonic() - began)
+    assert statistics.median(took) < AWAKE, took
