@@ -4,10 +4,16 @@ The folder old has dumps of an outbox, a carrier's file and a store, which progr
 were killed (2026-11-30, `sqlite3 FILE .dump`): 1.0.0 are those of 4b33908b, 0.1.0 those of 9c5e696a. The session tom,
 whose line has a key of the way back, and eve, whose line has none, have texts in each state: with a receipt, published,
 sealed, and waiting, with the close. A text of kim took effect, and its sender hasn't heard that. ann is closed, max has
-a text that waits and was never sealed from, and sue had no line."""
+a text that waits and was never sealed from, and sue had no line.
+
+The file stream has rows of a stream more (2026-12-01), whose session began by a ticket, with the keytabs under whose keys its
+key is wrapped: the outbox's and the carrier's are of that sender, with texts that took effect, are published, and wait. The
+store's are of a later receiver, without the columns that there weren't, since that receiver's library can't be built any
+more. No KDC is left."""
 import contextlib
 import os
 import sqlite3
+import subprocess
 
 import pytest
 from test_effects import HERE, Ends, _files_of_their_owner_alone, await_so, both_programs, end  # noqa: F401
@@ -19,6 +25,8 @@ SESSIONS = {
     "max": ("25", "35", 1, 1, 0, 0, False), "sue": ("26", "36", 1, 1, 0, 0, False), "kim": ("27", "37", 1, 0, 1, 1, False),
 }
 EVER = str(2**32 - 1)       # seconds: the frames are as old as the dumps
+ORDERS = [(number, b"o%d" % number) for number in range(1, 6)]     # the stream
+REALM = "[libdefaults]\ndefault_realm = KRBRELAY.TEST\n[realms]\nKRBRELAY.TEST = {\nkdc = 127.0.0.1:1\n}\n"
 LEFT = "SELECT (SELECT count(*) FROM text) + (SELECT count(*) FROM sealed) + (SELECT count(*) FROM frame)"
 
 
@@ -35,6 +43,31 @@ class Old(Ends):
             with open(f"{HERE}/old/{version}/{name}.sql", encoding="ascii") as dump, \
                     contextlib.closing(sqlite3.connect(f"{folder}/{name}.db")) as file:
                 file.executescript(dump.read())
+        stream = f"{HERE}/old/{version}/stream"
+        told = subprocess.run([f"{programs}/sender", "--help"], check=True, capture_output=True, text=True).stdout
+        self.has_stream = os.path.exists(stream) and "--keytab" in told
+        if self.has_stream:
+            self.add_stream(stream)
+
+    def add_stream(self, path):
+        for name, text in (("krb5.conf", REALM), ("allowed", "krbrelay-sender@KRBRELAY.TEST\n")):
+            with open(f"{self.folder}/{name}", "w", encoding="ascii") as file:
+                file.write(text)
+        with open(path, encoding="ascii") as lines:
+            for name, rest in (line.split(" ", 1) for line in lines):
+                if not name.endswith(".keytab"):
+                    self.run(name, rest)
+                    continue
+                with open(f"{self.folder}/{name}", "wb") as file:
+                    file.write(bytes.fromhex(rest))
+
+    def both_started(self):
+        def of(name, *more):
+            keys = "--keytab", f"{self.folder}/{name}.keytab", "--service", "krbrelay/receiver", "--ticket-shards", "3"
+            return (*keys, *more) if self.has_stream else ()
+        receiver = self.start("receiver", "--store", self.store, "--shards", "0-2", "--skew", EVER,
+                              *of("receiver", "--allow", f"{self.folder}/allowed"))
+        return receiver, self.sender(*of("sender", "--client", "krbrelay-sender", "--life", EVER))
 
     def effects(self):
         return {name: self.run("store", "SELECT number, text FROM effect WHERE session = ? ORDER BY id", (name,))
@@ -53,14 +86,17 @@ def programs(shared, prefix):
 
 
 @pytest.mark.parametrize("version", sorted(os.listdir(f"{HERE}/old")))
-def test_each_text_takes_effect_once(programs, tmp_path, version):
+def test_each_text_takes_effect_once(programs, tmp_path, version, monkeypatch):
+    monkeypatch.setenv("KRB5_CONFIG", f"{tmp_path}/krb5.conf")
     ends = Old(programs, tmp_path, version)
     assert ends.states() == {name: it[3:6] for name, it in SESSIONS.items()}
-    started = [ends.start("receiver", "--store", ends.store, "--shards", "0-1", "--skew", EVER), ends.sender()]
+    started = ends.both_started()
     await_so(lambda: not ends.run("outbox", LEFT)[0][0],
              lambda: (ends.run("outbox", "SELECT * FROM stopped"), ends.log()[-2000:]))
     end(*started)
     assert ends.effects() == {name: [(number + 1, b"%c%d" % (ord(name[0]), number + 1)) for number in range(it[2])]
                               for name, it in SESSIONS.items()}
-    assert dict(ends.run("store", "SELECT name, closed FROM session")) == {name: it[6] for name, it in SESSIONS.items()}
+    assert ends.run("store", "SELECT number, text FROM effect WHERE stream = 'orders' ORDER BY id") == (
+        ORDERS if ends.has_stream else [])
+    assert {name: closed for name, closed in ends.run("store", "SELECT name, closed FROM session") if name in SESSIONS} == {name: it[6] for name, it in SESSIONS.items()}
     assert ends.run("outbox", "SELECT * FROM stopped") == []
