@@ -494,7 +494,8 @@ class Lane(Turns):
     @in_turn
     def add(self, stored: Stored, opens: bool = False) -> int:
         """One session more, of which the outbox has this. The first frame of one that opens is its
-        opening, which leaves only after a release. ValueError, TypeError, MemoryError."""
+        opening, which leaves only after a release. Its pauses begin at the time of the last turn,
+        at 0 if there was none. ValueError, TypeError, MemoryError."""
         place = c_uint32()
         check(called(self._library.krbrelay_lane_add, byref(self._struct),
                      byref(_struct_of(stored)), flag("opens", opens), byref(place)))
