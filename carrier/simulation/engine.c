@@ -1,5 +1,6 @@
 /* Around the calls of krb_engine (--wrap): whose turn it is; and the fault that is planted, the opposite of one of its
  * laws, which changes what a call is given or what it answers. */
+#include "clock.h"
 #include "world.h"
 
 #include <krbrelay.h>
