@@ -1,5 +1,5 @@
 #include "clock.h"
-#include "ending.h"
+#include "signals.h"
 
 #include <time.h>
 

@@ -1,8 +1,8 @@
 #include "database.h"
 #include "clock.h"
-#include "ending.h"
+#include "signals.h"
 #include "log.h"
-#include "private.h"
+#include "owner_only.h"
 #include "text.h"
 
 #include <pthread.h>
@@ -82,7 +82,7 @@ sqlite3 *open_database(const char *path, const char *tables)
     sqlite3 *db = NULL;
     if (pthread_once(&configured, configure) != 0)
         end_at_once("pthread_once");
-    if (!private_is(path))
+    if (!owner_only_is(path))
         return NULL;
     if (sqlite3_open_v2(path, &db, flags, NULL) != SQLITE_OK) {
         log_fact(LEVEL_ERROR, "database_unopened", field_text("file", path),

@@ -1,5 +1,5 @@
 #include "locks.h"
-#include "ending.h"
+#include "signals.h"
 
 void take_lock(pthread_mutex_t *lock)
 {

@@ -1,5 +1,5 @@
 #include "options.h"
-#include "words.h"
+#include "option_words.h"
 
 #include <getopt.h>
 #include <stdio.h>

@@ -4,7 +4,7 @@
 #include "locks.h"
 #include "log.h"
 #include "text.h"
-#include "words.h"
+#include "option_words.h"
 
 #include <krbrelay.h>
 #include <math.h>

@@ -1,5 +1,5 @@
 #include "text.h"
-#include "ending.h"
+#include "signals.h"
 
 #include <stdarg.h>
 #include <stdio.h>

@@ -1,6 +1,6 @@
 #include "waiting.h"
 #include "clock.h"
-#include "ending.h"
+#include "signals.h"
 #include "log.h"
 
 #include <poll.h>

@@ -1,5 +1,5 @@
 /* The one place in which a program, or a thread of it, waits: until a moment, until the end
- * (ending.h), or until something has come.
+ * (signals.h), or until something has come.
  *
  * inotify reports that a database of SQLite was written to. It does so when the writing begins, and
  * what was written is seen only once it is synced. So a thread that was woken looks again soon, and

@@ -6,7 +6,7 @@
  * before that: it and all that it started are ended by SIGTERM, and by SIGKILL after two seconds. */
 #include "effects.h"
 #include "clock.h"
-#include "ending.h"
+#include "signals.h"
 #include "log.h"
 
 #include <errno.h>

@@ -2,7 +2,7 @@
 #include "carrier.h"
 #include "log.h"
 #include "text.h"
-#include "words.h"
+#include "option_words.h"
 
 #include <dlfcn.h>
 #include <stdlib.h>

@@ -5,13 +5,13 @@
  * again until it is there. It may be killed at any time: start it again. */
 #include "clock.h"
 #include "effects.h"
-#include "ending.h"
+#include "signals.h"
 #include "log.h"
 #include "options.h"
 #include "service.h"
-#include "serving.h"
-#include "sharing.h"
-#include "words.h"
+#include "shard_threads.h"
+#include "shard_locks.h"
+#include "option_words.h"
 
 #include <limits.h>
 #include <math.h>
@@ -37,7 +37,7 @@ static struct waiting waiting;    /* where this thread waits; what comes it pass
 
 /* ---- Shards that are shared */
 
-static struct sharing *sharing;
+static struct shard_locks *locks;
 static struct carrier *look;  /* by which it asks whether the carrier is there; NULL: it has to be opened (again) */
 static int is_cut_off;        /* from the carrier: shards are others' until it answers */
 static unsigned char is_closed[CARRIER_SHARDS]; /* with --until-closed: all its sessions are */
@@ -62,7 +62,7 @@ static unsigned count_served(void)
 {
     unsigned shard, count = 0;
     for (shard = 0; shard < CARRIER_SHARDS; shard++)
-        count += serving_state(shard) == SHARD_SERVED;
+        count += threads_state(shard) == SHARD_SERVED;
     return count;
 }
 
@@ -73,12 +73,12 @@ static void take_shards(unsigned count)
     for (i = 0; i < CARRIER_SHARDS && count > 0; i++) {
         unsigned shard = (from + i) % CARRIER_SHARDS;
         int taken;
-        if (!is_wanted(shard) || serving_state(shard) != SHARD_IDLE)
+        if (!is_wanted(shard) || threads_state(shard) != SHARD_IDLE)
             continue;
-        taken = sharing_take(sharing, shard);
+        taken = shard_locks_take(locks, shard);
         if (taken < 0)
             return;
-        count -= taken == 1 && serving_start(shard);
+        count -= taken == 1 && threads_start(shard);
     }
 }
 
@@ -87,10 +87,10 @@ static void leave_shards(unsigned count)
 {
     unsigned shard;
     for (shard = 0; shard < CARRIER_SHARDS; shard++) {
-        int is_own = is_wanted(shard) && sharing->has[shard];
-        if (serving_state(shard) != SHARD_SERVED || (is_own && count == 0))
+        int is_own = is_wanted(shard) && locks->has[shard];
+        if (threads_state(shard) != SHARD_SERVED || (is_own && count == 0))
             continue;
-        serving_leave(shard);
+        threads_leave(shard);
         count -= count > 0 && is_own;
     }
 }
@@ -100,10 +100,10 @@ static void give_back_shards(void)
 {
     unsigned shard;
     for (shard = 0; shard < CARRIER_SHARDS; shard++) {
-        if (serving_state(shard) != SHARD_IDLE || !sharing->has[shard])
+        if (threads_state(shard) != SHARD_IDLE || !locks->has[shard])
             continue;
-        is_closed[shard] = (unsigned char)serving_has_closed(shard);
-        sharing_give_back(sharing, shard);
+        is_closed[shard] = (unsigned char)threads_has_closed(shard);
+        shard_locks_give_back(locks, shard);
     }
 }
 
@@ -117,7 +117,7 @@ static int is_answered(void)
         return 0;
     for (i = 1; i <= CARRIER_SHARDS; i++) {
         shard = (last + i) % CARRIER_SHARDS;
-        if (is_wanted(shard) && serving_state(shard) != SHARD_SERVED)
+        if (is_wanted(shard) && threads_state(shard) != SHARD_SERVED)
             break;
     }
     return !look->is_away(look) && look->incarnation(look, shard, &list, &end) == 0;
@@ -127,9 +127,9 @@ static int is_answered(void)
 static int look_at_carrier(int receivers)
 {
     int was = is_cut_off;
-    if (was || (receivers > 1 && serving_is_unanswered()))
+    if (was || (receivers > 1 && threads_is_unanswered()))
         is_cut_off = !is_answered();
-    sharing->is_cut_off = is_cut_off;
+    locks->is_cut_off = is_cut_off;
     if (is_cut_off == was)
         return 0;
     if (is_cut_off)
@@ -141,7 +141,7 @@ static int look_at_carrier(int receivers)
 }
 
 /* Its health, as that of a shard: one that is cut off serves none. */
-static void show_sharing(void)
+static void show_locks(void)
 {
     double values[SERVICE_METRICS];
     unsigned i;
@@ -164,9 +164,9 @@ static void report_shared(int receivers)
 /* Each receiver serves the same part of the shards, rounded up. */
 static void share(void)
 {
-    int receivers = sharing->calls->count(sharing);
+    int receivers = locks->calls->count(locks);
     unsigned part = 0, served;
-    show_sharing();
+    show_locks();
     if (receivers < !is_cut_off || (look_at_carrier(receivers) && !is_cut_off))
         return; /* the store is away: what is served stays so; or it is counted from now on */
     if (!is_cut_off)
@@ -184,7 +184,7 @@ static void start_shards(void)
 {
     unsigned shard;
     for (shard = 0; shard < CARRIER_SHARDS && !is_ending(); shard++)
-        if (options.is_served[shard] && !serving_start(shard))
+        if (options.is_served[shard] && !threads_start(shard))
             end_now();
 }
 
@@ -194,8 +194,8 @@ static void look_at_sessions(void)
     struct sessions *again = sessions_read_again(sessions);
     if (again == NULL)
         return;
-    serving_use(again);
-    serving_wake();
+    threads_use(again);
+    threads_wake();
     sessions_forget(sessions);
     sessions = again;
     memset(is_closed, 0, sizeof is_closed);
@@ -204,9 +204,9 @@ static void look_at_sessions(void)
 /* Whether there is nothing to do any more. */
 static int is_done(void)
 {
-    if (serving_count() > 0)
+    if (threads_count() > 0)
         return 0;
-    if (is_ending() || sharing == NULL)
+    if (is_ending() || locks == NULL)
         return 1;
     return options.shard.until_closed && count_wanted() == 0;
 }
@@ -215,20 +215,20 @@ static int is_done(void)
 static void watch_carrier(void)
 {
     const char *file = carrier_file(&options.shard.carrier);
-    if (file == NULL || waiting.count > 0 || serving_count() == 0 || !serving_is_ready())
+    if (file == NULL || waiting.count > 0 || threads_count() == 0 || !threads_is_ready())
         return;
     waiting_watch(&waiting, file);
-    serving_wake();
+    threads_wake();
 }
 
 static void do_each_second(void)
 {
-    if (sharing != NULL)
+    if (locks != NULL)
         give_back_shards();
-    serving_look_at_stores();
+    threads_look_at_stores();
     if (!is_ending())
         look_at_sessions();
-    if (sharing != NULL && !is_ending())
+    if (locks != NULL && !is_ending())
         share();
     service_tell_alive();
 }
@@ -239,14 +239,14 @@ static void watch(void)
     int is_ready = 0, is_ended = 0;
     uint64_t next = 0;
     while (!is_done()) {
-        if (serving_join() > 0 && sharing != NULL)
+        if (threads_join() > 0 && locks != NULL)
             give_back_shards();
         watch_carrier();
         if (milliseconds() >= next) {
             do_each_second();
             next = milliseconds() + SECOND;
         }
-        if (!is_ready && serving_is_ready()) {
+        if (!is_ready && threads_is_ready()) {
             service_tell_ready();
             is_ready = 1;
         }
@@ -255,7 +255,7 @@ static void watch(void)
             is_ended = 1;
         }
         if (waiting_until(&waiting, next))
-            serving_wake();
+            threads_wake();
     }
 }
 
@@ -265,22 +265,22 @@ static int work(void)
     int is_fine;
     waiting_begin(&waiting, 1);
     is_fine = effects_choose(options.effect, options.refusals) == 0
-              && serving_begin(&options.shard, sessions, options.shard_count == 0, &waiting) == 0
+              && threads_begin(&options.shard, sessions, options.shard_count == 0, &waiting) == 0
               && (options.metrics == NULL || service_listen(options.metrics) == 0);
     if (is_fine && options.shard_count == 0)
-        is_fine = (sharing = sharing_open(options.shard.store)) != NULL;
-    if (is_fine && sharing != NULL)
+        is_fine = (locks = shard_locks_open(options.shard.store)) != NULL;
+    if (is_fine && locks != NULL)
         look = carrier_open(&options.shard.carrier); /* while it is there; else it is opened later */
     if (is_fine) {
         start_shards();
         watch();
-        is_fine = !serving_failed();
+        is_fine = !threads_failed();
     }
-    if (sharing != NULL)
-        sharing->calls->close(sharing);
+    if (locks != NULL)
+        locks->calls->close(locks);
     if (look != NULL)
         look->close(look);
-    serving_end();
+    threads_end();
     waiting_end(&waiting);
     service_end();
     return !is_fine;

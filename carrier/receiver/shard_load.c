@@ -1,6 +1,6 @@
 /* Which sessions a shard has, and what the store has of them (shard.h). */
 #include "clock.h"
-#include "kept.h"
+#include "stored_openings.h"
 #include "log.h"
 #include "receipts.h"
 #include "shard.h"
@@ -310,7 +310,7 @@ int shard_load(struct shard *s)
     if (s->carrier->incarnation(s->carrier, s->number, &list, &end) != 0 || list == 0)
         return 1;
     if (s->kerberos != NULL && !s->has_wrapped) /* without the keytab others go on */
-        s->has_wrapped = kept_wrap_anew(s->store, s->kerberos, s->number) == 0;
+        s->has_wrapped = openings_wrap_anew(s->store, s->kerberos, s->number) == 0;
     if (place_reading(s, &reached, list, end) != 0)
         return -1;
     s->carrier->seek(s->carrier, s->number, s->reading.read.offset);

@@ -1,6 +1,6 @@
 /* The sessions of a shard that begin by tickets: from the store, or by their openings. */
 #include "clock.h"
-#include "kept.h"
+#include "stored_openings.h"
 #include "log.h"
 #include "shard.h"
 
@@ -57,7 +57,7 @@ static int note_found(void *given, const struct opened *it)
 static int find_stored(struct shard *s, const char *name, const struct opened *after, struct receiving **found)
 {
     struct sought sought = { s, after, NULL };
-    if (kept_find(s->store, s->kerberos, name, note_found, &sought) != 0)
+    if (openings_find(s->store, s->kerberos, name, note_found, &sought) != 0)
         return -1;
     *found = sought.found;
     return *found != NULL;
@@ -147,7 +147,7 @@ static enum opening_answer judge_place(struct shard *s, const struct opened *it)
         if (is_same_stream(other, it) && strcmp(other->before, it->before) == 0)
             return OPENING_FORKED;
     }
-    return kept_judge(s->store, it);
+    return openings_judge(s->store, it);
 }
 
 static int open_session(struct shard *s, const struct carried *it, struct receiving **found)

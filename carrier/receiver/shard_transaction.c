@@ -6,8 +6,8 @@
  * which each text is waited for: so what fails is named, and what others did isn't done again. */
 #include "clock.h"
 #include "effects.h"
-#include "ending.h"
-#include "kept.h"
+#include "signals.h"
+#include "stored_openings.h"
 #include "log.h"
 #include "shard.h"
 
@@ -34,7 +34,7 @@ static int advance_all(struct shard *s)
         draft(it);
         if (store_advance(s->store, it->of.name, &it->stored, &it->now) != 0)
             return -1;
-        if (it->opened_at > 0 && kept_add(s->store, s->kerberos, it->opened) != 0)
+        if (it->opened_at > 0 && openings_add(s->store, s->kerberos, it->opened) != 0)
             return -1;
     }
     return 0;

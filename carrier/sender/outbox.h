@@ -21,7 +21,7 @@
 #ifndef OUTBOX_H
 #define OUTBOX_H
 
-#include "at_rest.h"
+#include "key_wrapping.h"
 #include "database.h"
 #include "history.h"
 #include "opening.h"
@@ -172,7 +172,7 @@ int outbox_add_stopped(struct outbox *outbox, const char *session, const char *r
 int outbox_end_stopped(struct outbox *outbox, const char *session);
 int outbox_drop_stopped(struct outbox *outbox);
 
-/* ---- Sessions that begin by tickets (opening.h), whose keys are wrapped (at_rest.h). */
+/* ---- Sessions that begin by tickets (opening.h), whose keys are wrapped (key_wrapping.h). */
 
 /* Such a session, which is the turn'th of its stream; what `opened` says of a client is nothing. */
 struct begun {

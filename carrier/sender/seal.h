@@ -45,7 +45,7 @@ struct sending {
     int is_touched, is_dirty, is_sealable, is_deaf; /* it is in the lists of sender.h */
     int is_unread;              /* `history` couldn't be read: nothing is sealed before it is */
     struct krbrelay_opener receipts; /* made with the first one */
-    uint64_t uncarried, awaited, unreceipted, undone; /* as its shard's sums have them (publish.c) */
+    uint64_t uncarried, awaited, unreceipted, undone; /* as its shard's sums have them (sender_turns.c) */
     uint64_t left;              /* the frames below have left before, */
     uint64_t answered;          /* and those below wait for no answer of the carrier, whether that counts */
     uint32_t stands, stands_now; /* why it stands, as the outbox has it, and now: KRBRELAY_STANDS_* */

@@ -1,8 +1,8 @@
 /* One round of a sender: it takes texts from the outbox, seals them into frames, which the outbox stores, and
- * publishes these until receipts say that they took effect (outbox.h, publish.c). */
+ * publishes these until receipts say that they took effect (outbox.h, sender_turns.c). */
 #include "sender.h"
 #include "clock.h"
-#include "ending.h"
+#include "signals.h"
 #include "log.h"
 #include "service.h"
 
@@ -127,7 +127,7 @@ static void note_kept(struct sender *s)
     s->dirty.count = 0;
     for (i = 0; i < s->touched.count; i++) {
         struct sending *it = s->touched.at[i];
-        (void)publish_has(it, krbrelay_lane_sealed(&s->lanes[it->lane].ends, it->place,
+        (void)turns_has(it, krbrelay_lane_sealed(&s->lanes[it->lane].ends, it->place,
                                                    it->sealed - it->end.progress.next)); /* else it is told */
         it->kept.next = it->sealed;
         it->is_touched = 0;
@@ -135,7 +135,7 @@ static void note_kept(struct sender *s)
         free(it->wrapped);
         it->wrapped = NULL;
         sender_note_renewed(it, 1);
-        publish_note(s, it);
+        turns_note(s, it);
     }
     s->touched.count = 0;
 }
@@ -148,13 +148,13 @@ static void give_up(struct sender *s, sqlite3_int64 seen)
     outbox_rollback(&s->outbox);
     s->ended.count = 0;
     seal_forget(&s->sealing);
-    texts_give_up(s, seen);
+    intake_give_up(s, seen);
     for (i = 0; i < s->touched.count; i++) {
         struct sending *it = s->touched.at[i];
         (void)sender_read_history(s, it); /* where it can't be read now, it is before the next text is sealed */
         sender_note_renewed(it, 0);
         it->is_touched = 0;
-        publish_note(s, it);
+        turns_note(s, it);
     }
     s->touched.count = 0;
 }
@@ -168,7 +168,7 @@ static enum outbox_answer store(struct sender *s, int with_texts)
     if (begun != OUTBOX_OK)
         return begun;
     if (with_texts)
-        answer = texts_take(s);
+        answer = intake_take(s);
     if (answer == SEAL_OK)
         answer = keep_sealed(s);
     if (answer == SEAL_OK)
@@ -322,7 +322,7 @@ static enum outbox_answer keep_stands(struct sender *s)
         if (krbrelay_sending_state(&it->end, &under_way, &room, &settled, &it->stands_now) != KRBRELAY_OK
             || it->stopped_at == 1)
             it->stands_now = KRBRELAY_STANDS_NOT; /* one that is stopped has its reason in `stopped` */
-        else if (it->uncarried > 0 && publish_is_shard_away(s, it))
+        else if (it->uncarried > 0 && turns_is_shard_away(s, it))
             it->stands_now = KRBRELAY_STANDS_UNCONFIRMED;
         s->standing += it->stands_now != KRBRELAY_STANDS_NOT;
         changed += it->stands != it->stands_now && it->is_stored;
@@ -443,7 +443,7 @@ static uint64_t earlier(uint64_t one, uint64_t other)
 /* When there is something to do again after a round that did nothing, if nothing comes before. */
 static uint64_t next_time(struct sender *s)
 {
-    uint64_t next = earlier(publish_next_time(s), receipts_next_time(s));
+    uint64_t next = earlier(turns_next_time(s), receipts_next_time(s));
     if (s->dirty.count > 0)
         next = earlier(next, s->kept_moment + KEPT);
     if (s->options.drain || s->untold.count > 0)
@@ -468,7 +468,7 @@ static int keep(struct sender *s, int texts, enum outbox_answer *answer)
 static uint64_t rest(struct sender *s, int has_done)
 {
     uint64_t now = milliseconds(), next = next_time(s);
-    if (s->sealable.count > 0 || next <= now || (has_done && (s->carrier->file == NULL || texts_wait(s))))
+    if (s->sealable.count > 0 || next <= now || (has_done && (s->carrier->file == NULL || intake_wait(s))))
         return 0;
     if (has_done)
         s->rests = now + GATHERING;
@@ -480,7 +480,7 @@ static int relay(struct sender *s, enum outbox_answer *answer, uint64_t *until)
 {
     uint64_t began;
     size_t rose;
-    int has_kept, has_more, waits, texts = texts_wait(s);
+    int has_kept, has_more, waits, texts = intake_wait(s);
     if (is_drained(s, texts))
         return 1;
     has_kept = keep(s, texts, answer);
@@ -488,9 +488,9 @@ static int relay(struct sender *s, enum outbox_answer *answer, uint64_t *until)
         return 1;
     began = nanoseconds();
     receipts_hear(s);
-    has_more = publish_all(s);
+    has_more = turns_all(s);
     waits = s->carrier->file == NULL && s->uncarried > 0 && !texts && !has_more;
-    rose = publish_count_carried(s, waits ? IDLE : 0);
+    rose = turns_count_carried(s, waits ? IDLE : 0);
     report_silence(s, rose);
     s->carrying += nanoseconds() - began;
     *until = has_more || waits ? 0 : rest(s, has_kept || rose > 0);

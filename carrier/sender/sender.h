@@ -1,5 +1,5 @@
-/* The state of a sender, in five parts: sender_sessions.c has its sessions, texts.c takes texts
- * from the outbox, publish.c does for a session what krb_engine says, sender.c stores what was done, and has one
+/* The state of a sender, in five parts: sender_sessions.c has its sessions, intake.c takes texts
+ * from the outbox, sender_turns.c does for a session what krb_engine says, sender.c stores what was done, and has one
  * round of the loop, and sender_report.c shows it. sender_main.c is the program.
  *
  * Which session is served and when, what leaves, and when again, what a receipt means and why a session stands is
@@ -141,7 +141,7 @@ int sender_read_history(struct sender *s, struct sending *it);
 int sender_begin(struct sender *s);
 void sender_forget(struct sender *s);
 
-/* ---- sender_streams.c: sessions that begin by tickets. */
+/* ---- sender_openings.c: sessions that begin by tickets. */
 
 /* The session of this name, if the outbox has it; that of this stream, which is begun if there is
  * none: 1, 0 if there is none, or its key can't be read, -1 after a fault, or SENDER_LATER. */
@@ -170,45 +170,45 @@ void sender_note_left(struct sender *s);
 /* Tries those that are due: their texts are looked at again, in their order. */
 void sender_try_left(struct sender *s);
 
-/* ---- texts.c */
+/* ---- intake.c */
 
 /* Whether texts may be taken now. */
-int texts_wait(struct sender *s);
+int intake_wait(struct sender *s);
 
 /* Takes them, within a transaction. */
-enum seal_answer texts_take(struct sender *s);
+enum seal_answer intake_take(struct sender *s);
 
 /* The transaction was given up, which began when all texts up to this one were looked at. */
-void texts_give_up(struct sender *s, sqlite3_int64 seen);
+void intake_give_up(struct sender *s, sqlite3_int64 seen);
 
-/* ---- publish.c */
+/* ---- sender_turns.c */
 
 /* Does what krb_sender says of sessions whose turn it is. 1 if more wait for theirs. */
-int publish_all(struct sender *s);
+int turns_all(struct sender *s);
 
 /* A session of the lane is loaded: its pauses begin at the time of the lane's last turn, which is now. KRBRELAY_MEMORY. */
-enum krbrelay_answer publish_set_time(struct sender *s, struct lane *lane);
+enum krbrelay_answer turns_set_time(struct sender *s, struct lane *lane);
 
 /* When a session has its turn again, if nothing comes before, in milliseconds. */
-uint64_t publish_next_time(struct sender *s);
+uint64_t turns_next_time(struct sender *s);
 
 /* Whether the list of a session's shard can't be had for long. */
-int publish_is_shard_away(const struct sender *s, const struct sending *it);
+int turns_is_shard_away(const struct sender *s, const struct sending *it);
 
 /* Counts the frames that are carried now, and answers how many. Waits for the first at most so long. */
-size_t publish_count_carried(struct sender *s, int milliseconds);
+size_t turns_count_carried(struct sender *s, int milliseconds);
 
 /* Whether a lane has the session, by its answer to a call: that it hasn't is never, and told. */
-int publish_has(const struct sending *it, enum krbrelay_answer answer);
+int turns_has(const struct sending *it, enum krbrelay_answer answer);
 
 /* Takes the session's end from its shard's lane: 0, or -1 where it has none. */
-int publish_look(struct sender *s, struct sending *it);
+int turns_look(struct sender *s, struct sending *it);
 
 /* Something has happened to the session: what is counted of it is counted anew. */
-void publish_note(struct sender *s, struct sending *it);
+void turns_note(struct sender *s, struct sending *it);
 
 /* Nothing of it leaves any more, for its `reason`: the next round says so in the outbox. */
-void publish_stop(struct sender *s, struct sending *it);
+void turns_stop(struct sender *s, struct sending *it);
 
 /* ---- sender_receipts.c */
 

@@ -5,7 +5,7 @@
  * any time: start it again. */
 #include "sender.h"
 #include "clock.h"
-#include "ending.h"
+#include "signals.h"
 #include "log.h"
 #include "options.h"
 #include "service.h"

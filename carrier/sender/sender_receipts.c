@@ -79,9 +79,9 @@ static enum heard hear_receipt(struct sender *s, struct sending *it, const uint8
     said.number = receipt.n;
     said.asks = receipt.asks;
     memcpy(said.history, receipt.history.bytes, sizeof said.history);
-    if (!publish_has(it, krbrelay_lane_receipt(&s->lanes[it->lane].ends, it->place, &said, own.bytes, own_is,
+    if (!turns_has(it, krbrelay_lane_receipt(&s->lanes[it->lane].ends, it->place, &said, own.bytes, own_is,
                                                milliseconds(), &heard))
-        || publish_look(s, it) != 0)
+        || turns_look(s, it) != 0)
         return HEARD_NOTHING;
     if (heard == KRBRELAY_HEARD_AGAIN)
         return HEARD_FAULT;
@@ -95,14 +95,14 @@ static enum heard hear_receipt(struct sender *s, struct sending *it, const uint8
 void receipts_note(struct sender *s, struct sending *it, enum heard heard)
 {
     if (heard == HEARD_STOPS) {
-        publish_stop(s, it);
+        turns_stop(s, it);
         return;
     }
     if (heard == HEARD_DELIVERED) {
         s->receipts++;
         list_add(&s->dirty, it, &it->is_dirty);
     }
-    publish_note(s, it);
+    turns_note(s, it);
 }
 
 /* ---- Receipts that are kept, until their session is loaded or they can be heard */

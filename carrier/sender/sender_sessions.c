@@ -67,7 +67,7 @@ struct sending *sender_add(struct sender *s, const struct session *of, struct be
         return it;
     }
     if (lane->has_spare)
-        (void)publish_has(it, krbrelay_lane_stop(&lane->ends, it->place)); /* until it is loaded again */
+        (void)turns_has(it, krbrelay_lane_stop(&lane->ends, it->place)); /* until it is loaded again */
     it->begun = NULL; /* it is the caller's */
     (void)tdelete(it, &s->by_name, by_name); /* NULL if it isn't there */
     free_sending(it);
@@ -82,7 +82,7 @@ static enum krbrelay_answer load_end(struct sender *s, const struct sending *it)
     int is_elsewhere = kept->shard >= 0 && kept->shard != (int32_t)it->of.shard;
     struct krbrelay_stored row = { .next = kept->next, .carried = kept->carried, .at = kept->at, .done = kept->done,
                                    .list = is_elsewhere ? 0 : kept->incarnation };
-    enum krbrelay_answer answer = publish_set_time(s, lane);
+    enum krbrelay_answer answer = turns_set_time(s, lane);
     uint32_t place = 0;
     if (answer != KRBRELAY_OK)
         return answer;
@@ -107,7 +107,7 @@ int sender_load(struct sender *s, struct sending *it)
                  field_number("next", kept->next), field_number("carried", kept->carried),
                  field_number("done", kept->done),
                  field_text("text", "the outbox has these numbers, which are no progress"));
-    if (answer != KRBRELAY_OK || publish_look(s, it) != 0)
+    if (answer != KRBRELAY_OK || turns_look(s, it) != 0)
         return -1;
     it->stands = kept->stands;
     return sender_read_history(s, it);

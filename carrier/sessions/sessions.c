@@ -1,7 +1,7 @@
 #include "sessions.h"
 #include "log.h"
-#include "private.h"
-#include "words.h"
+#include "owner_only.h"
+#include "option_words.h"
 
 #include <arpa/inet.h>
 #include <stdlib.h>
@@ -311,7 +311,7 @@ struct sessions *sessions_read(const char *path)
     if (s == NULL)
         return NULL;
     s->path = path;
-    s->text = private_read(path, &s->size, &s->read);
+    s->text = owner_only_read(path, &s->size, &s->read);
     if (s->text != NULL && sort_lines(s)) {
         if (s->count > 0)
             return s;
@@ -391,7 +391,7 @@ void sessions_forget(struct sessions *s)
 {
     if (s == NULL || __atomic_sub_fetch(&s->users, 1, __ATOMIC_SEQ_CST) > 0)
         return;
-    private_forget(s->text, s->size);
+    owner_only_forget(s->text, s->size);
     free(s->places);
     free(s);
 }

@@ -3,7 +3,7 @@
 #include "clock.h"
 #include "effects.h"
 #include "sender.h"
-#include "serving.h"
+#include "shard_threads.h"
 
 #include <stdio.h>
 #include <stdlib.h>
@@ -66,7 +66,7 @@ static void give_sessions(int party)
         to->now = to->later;
         to->later = NULL;
     }
-    serving_use(to->now);
+    threads_use(to->now);
 }
 
 /* Streams are in all shards. */
@@ -109,19 +109,19 @@ static void start_receiver(int party)
 {
     unsigned i = (unsigned)(party - RECEIVER);
     has_opened[i] = 0;
-    serving_prepare(&receivers[i], i % SHARDS);
-    world.is_up[party] = has_opened[i] = serving_open(&receivers[i]) == 0;
+    threads_prepare(&receivers[i], i % SHARDS);
+    world.is_up[party] = has_opened[i] = threads_open(&receivers[i]) == 0;
 }
 
 static void step_receiver(int party)
 {
-    (void)serving_turn(&receivers[party - RECEIVER], &until); /* none of them is asked to end */
+    (void)threads_turn(&receivers[party - RECEIVER], &until); /* none of them is asked to end */
 }
 
 static void stop_receiver(int party)
 {
     if (has_opened[party - RECEIVER])
-        serving_finish(&receivers[party - RECEIVER]);
+        threads_finish(&receivers[party - RECEIVER]);
     shard_stop(&receivers[party - RECEIVER].shard);
 }
 
@@ -246,7 +246,7 @@ void ends_begin(void)
     world.shown = has(KIND_LATER) ? world.names - 1 : 0;
     happened(KIND_LATER, has(KIND_LATER) != 0);
     ends_write_sessions();
-    if (serving_begin(&shards, sessions_empty(), 1, NULL) != 0)
+    if (threads_begin(&shards, sessions_empty(), 1, NULL) != 0)
         exit(2);
     ends_use_sessions(0);
     world.shown = 0;

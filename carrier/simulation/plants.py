@@ -42,7 +42,7 @@ for (int i = 1; i < count; i++)
     "a second session after one is stored": ("forked+tickets+keys", 1, "DOUBLED", ("shard_open.c", """\
 OPENING_FORKED;
     }
-    return kept_judge(s->store, it)""", """\
+    return openings_judge(s->store, it)""", """\
 OPENING_OK;
     }
     return OPENING_OK"""), ("store.c", "client,", "name, client,")),
@@ -54,7 +54,7 @@ next = ?7 AND closed = ?8 AND missed = ?9 AND at = ?10"
     "frames leave before they are stored": ("uncommitted", 1, "STANDS", ("sender.c", "SEAL_OK && outbox_commit", """\
 SEAL_OK && outbox_insert(&s->outbox) == 0) {
         note_kept(s);
-        (void)publish_all(s);
+        (void)turns_all(s);
     }
     if (answer == SEAL_OK && outbox_commit""")),
     "after a fault of the outbox nothing is loaded again": ("outbox_unknown", 2, "UNTOLD",
@@ -125,7 +125,7 @@ s->reading.stored.list != list && end >= s->reading.stored.offset ? s->reading.s
     "an opening leaves before the session before is carried": (
         "a receiver takes it for one of a later turn, which has to come again",
         ("calm+tickets", "tickets+killed", "keys+tickets", "tickets+killed+carrier"),
-        ("publish.c", "!tickets_have(s->tickets) || sender_is_after(s, it)", "!tickets_have(s->tickets)")),
+        ("sender_turns.c", "!tickets_have(s->tickets) || sender_is_after(s, it)", "!tickets_have(s->tickets)")),
     "offsets aren't compared": (
         "rows are: each frame that is accepted changes one",
         ("carrier+killed+lost", "lost+stopped", "killed+slow", "bursts+stopped"),
@@ -141,7 +141,7 @@ some.count = 0;
         for (i = 0; i < some.count &&""")),
     "sessions' turns are no reason to wake": (
         "a round comes each second", ("calm", "lost", "cut", "skewed"),
-        ("sender.c", "earlier(publish_next_time(s), receipts_next_time(s))", "receipts_next_time(s)")),
+        ("sender.c", "earlier(turns_next_time(s), receipts_next_time(s))", "receipts_next_time(s)")),
     "numbers aren't compared beside the owner": (
         "the owner is", ("taken_over", "killed+taken_over", "outbox_unknown", "stopped+taken_over"),
         ("outbox.c", "AND next = ?3", "AND ?3 IS NOT NULL")),

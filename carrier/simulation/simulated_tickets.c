@@ -1,7 +1,7 @@
 /* Tickets, openings and keys at rest without Kerberos: in the place of without_tickets.c. An opening is its session in the
  * clear with a digest, which nobody forges here; what is right of real ones is tested with a KDC (carrier/test --tickets).
  * At times no ticket can be had, and the keytab can't be read. */
-#include "at_rest.h"
+#include "key_wrapping.h"
 #include "clock.h"
 #include "ports.h"
 #include "tickets.h"
@@ -43,7 +43,7 @@ void kerberos_close(struct kerberos *kerberos)
 }
 
 /* The wrapped key has a digest of what is said about it before it. */
-int at_rest_wrap(struct kerberos *kerberos, int usage, const char *about, const uint8_t *key, size_t len,
+int key_wrap(struct kerberos *kerberos, int usage, const char *about, const uint8_t *key, size_t len,
                  struct wrapped *to)
 {
     uint64_t digest = digest_of(about, strlen(about));
@@ -55,7 +55,7 @@ int at_rest_wrap(struct kerberos *kerberos, int usage, const char *about, const 
     return 0;
 }
 
-int at_rest_read(struct kerberos *kerberos, int usage, const char *about, const struct wrapped *from,
+int key_unwrap(struct kerberos *kerberos, int usage, const char *about, const struct wrapped *from,
                  uint8_t key[SESSION_KEY], size_t *len)
 {
     uint64_t digest = digest_of(about, strlen(about));
@@ -67,7 +67,7 @@ int at_rest_read(struct kerberos *kerberos, int usage, const char *about, const 
     return 0;
 }
 
-int at_rest_newest(struct kerberos *kerberos, uint32_t *kvno)
+int key_newest(struct kerberos *kerberos, uint32_t *kvno)
 {
     *kvno = 1;
     return can_read_keys() ? 0 : -1;

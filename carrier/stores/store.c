@@ -2,7 +2,7 @@
 #include "store.h"
 #include "carrier.h"
 #include "log.h"
-#include "words.h"
+#include "option_words.h"
 
 #include <stdio.h>
 #include <stdlib.h>

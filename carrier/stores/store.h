@@ -155,7 +155,7 @@ struct store {
  * none is free. */
 unsigned store_place(const struct store *store, const char *sql);
 
-/* The table of kept.h, in words of each store. */
+/* The table of stored_openings.h, in words of each store. */
 extern const char kept_tables[];
 
 struct store *sqlite_store_open(const char *path, unsigned shard);

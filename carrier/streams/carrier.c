@@ -1,6 +1,6 @@
 /* Which carrier it is. */
 #include "carrier.h"
-#include "words.h"
+#include "option_words.h"
 
 #include <stdio.h>
 #include <string.h>

@@ -2,7 +2,7 @@
 #include "clock.h"
 #include "log.h"
 #include "nats_carrier.h"
-#include "private.h"
+#include "owner_only.h"
 #include "text.h"
 
 #include <stdio.h>
@@ -137,7 +137,7 @@ static natsStatus set_credentials(natsOptions *options, const char *path)
 {
     size_t size;
     struct stat is;
-    char *text = private_read(path, &size, &is), *user, *password, *rest = NULL;
+    char *text = owner_only_read(path, &size, &is), *user, *password, *rest = NULL;
     natsStatus status = NATS_INVALID_ARG;
     if (text == NULL)
         return NATS_IO_ERROR;
@@ -149,7 +149,7 @@ static natsStatus set_credentials(natsOptions *options, const char *path)
         if (user != NULL && password != NULL && strtok_r(NULL, " \t\r\n", &rest) == NULL)
             status = natsOptions_SetUserInfo(options, user, password);
     }
-    private_forget(text, size);
+    owner_only_forget(text, size);
     return status;
 }
 

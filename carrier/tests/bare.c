@@ -6,7 +6,7 @@
 #include "clock.h"
 #include "database.h"
 #include "effect.h"
-#include "ending.h"
+#include "signals.h"
 #include "waiting.h"
 
 #include <string.h>

@@ -58,7 +58,7 @@ static void await_shard(struct carrier *c, unsigned shard)
     check(made > 0, "a shard is made");
 }
 
-static void publish_all(struct carrier *c)
+static void turns_all(struct carrier *c)
 {
     uint8_t frame[1500];
     unsigned i;
@@ -163,7 +163,7 @@ int main(int count, char **words)
     check(c != NULL && reader != NULL, "open");
     await_shard(c, SHARD);
     await_shard(c, SHARD + 1);
-    publish_all(c);
+    turns_all(c);
     await_confirmed(c);
     for (i = 2; i < FRAMES; i++)
         check(offsets[i] > offsets[i - 2], "offsets rise");

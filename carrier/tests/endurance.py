@@ -1,4 +1,4 @@
-"""Senders and receivers that are started as systemd's units say (units.py), over three nodes of
+"""Senders and receivers that are started as systemd's units say (systemd_units.py), over three nodes of
 JetStream and PostgreSQL, while processes and servers are killed and stopped: for an hour, or as long as
 is asked for. Receivers share the shards. The metrics of each program are read each second: the lag of
 all shards has to return to zero, and each text has to take effect once and in order.
@@ -18,7 +18,7 @@ import errors
 import evidence
 import jetstream
 import loglines
-import units
+import systemd_units
 
 UNITS = os.path.join(os.path.dirname(os.path.abspath(__file__)), "../systemd")
 SENDERS, RECEIVERS, SESSIONS, SHARDS = 3, 3, 24, 8
@@ -88,7 +88,7 @@ class Endurance:
                      "OUTBOX": f"{self.folder}/outbox{number}.db", "STORE": self.database.where,
                      "CARRIER": self.nats.where, "SHARDS": "auto",
                      "OPTIONS": f"--replicas 3 --metrics 127.0.0.1:{ports[place]}"}
-            self.units[name] = units.Unit(f"{UNITS}/krbrelay-{kind}@.service",
+            self.units[name] = systemd_units.Unit(f"{UNITS}/krbrelay-{kind}@.service",
                                           f"{self.programs}/{kind}", given, self.folder, name)
             self.ports[name] = ports[place]
             self.units[name].start()

@@ -2,7 +2,7 @@
  * isn't left in freed blocks:  files_test FOLDER */
 #include "check.h"
 #include "left.h"
-#include "private.h"
+#include "owner_only.h"
 #include "receipts.h"
 #include "sessions.h"
 
@@ -29,12 +29,12 @@ static void test_modes(void)
         char *text;
         write_file("secret\n", 0600);
         check(chmod(path, mode) == 0, "its mode is set");
-        text = private_read(path, &size, &is);
+        text = owner_only_read(path, &size, &is);
         check((mode & 077) == 0 || text == NULL, "a file that others may use is refused");
         check((mode & 0477) != 0400 || (text != NULL && size == 7 && strcmp(text, "secret\n") == 0),
               "a file of its owner alone is read");
         look_for("secret");
-        private_forget(text, size);
+        owner_only_forget(text, size);
         check(found_left() == 0, "what was read isn't left in memory");
     }
 }

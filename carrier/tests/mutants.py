@@ -21,7 +21,7 @@ EDITS = {
     "receipts ask for nothing": ("shard_receipts.c", ".asks = due->asks };", ".asks = KRBRELAY_ASKS_NOTHING };"),
     "what is asked for doesn't leave": ("sender_receipts.c", "said.asks = receipt.asks;",
                                         "said.asks = KRBRELAY_ASKS_NOTHING;"),
-    "nothing is probed": ("publish.c", "publish_frames(s, it, command->number, 1);\n", ""),
+    "nothing is probed": ("sender_turns.c", "publish_frames(s, it, command->number, 1);\n", ""),
     "frames go once they are carried": ("sender.c", ".carried = end->progress.carried, .done = end->done,",
                                         ".carried = end->progress.carried, .done = end->progress.carried,"),
     "receipts of other frames count": ("sender_receipts.c",
@@ -33,7 +33,7 @@ EDITS = {
 """, """\
     s->has_heard = 1;
 """),
-    "later texts are taken first": ("texts.c", "if ((*it)->has_texts || is_left(*it, text))",
+    "later texts are taken first": ("intake.c", "if ((*it)->has_texts || is_left(*it, text))",
                                     "if (is_left(*it, text))"),
     "receipts aren't sealed again": ("shard_receipts.c", "if (place >= s->members.count)",
                                      "if (place >= s->members.count || due.asks == KRBRELAY_ASKS_NOTHING)"),
@@ -78,7 +78,7 @@ TICKET_EDITS = {
 """, ""),
     "each shard goes on with a session": ("shard_open.c", "int is_here = it->shard == sought->shard->number;",
                                           "int is_here = it->shard < CARRIER_SHARDS;"),
-    "a stream goes on without its key": ("sender_streams.c", """\
+    "a stream goes on without its key": ("sender_openings.c", """\
         stream->left = STREAM_LEFT; /* so that no later text of it is taken before this one */
 """, ""),
     "no session waits for the one before": ("shard.c", "&& shard_judge(s, of) != KRBRELAY_JUDGED_BEGINS;",

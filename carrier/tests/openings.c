@@ -10,7 +10,7 @@
 #include "check.h"
 #include "opening.h"
 #include "text.h"
-#include "words.h"
+#include "option_words.h"
 
 #include <gssapi/gssapi.h>
 #include <gssapi/gssapi_krb5.h>

@@ -9,7 +9,7 @@
 
 enum { WINDOW = 2048, TAKEN = 256, WAIT = 20 };
 
-static double publish_all(struct carrier *c, unsigned shard, int frames, size_t len)
+static double turns_all(struct carrier *c, unsigned shard, int frames, size_t len)
 {
     static uint8_t frame[1 << 20];
     static struct confirmed list[WINDOW];
@@ -51,7 +51,7 @@ int main(int count, char **words)
     c = carrier_open(&options);
     if (c == NULL)
         return 1;
-    published = publish_all(c, (unsigned)atoi(words[6]), atoi(words[8]), (size_t)atoi(words[10]));
+    published = turns_all(c, (unsigned)atoi(words[6]), atoi(words[8]), (size_t)atoi(words[10]));
     printf("published %.0f a second, read %.0f a second\n", published,
            read_all(c, (unsigned)atoi(words[6]), atoi(words[8])));
     c->close(c);

@@ -1,12 +1,12 @@
 /* What a shard takes of frames, among them those of an independent sealer, that nothing of a transaction is
  * stored if an effect of it fails, and what is left in memory:
  *     shard_test FOLDER
- * Built with -Wl,--wrap=free,--wrap=krbrelay_opener_open,--wrap=krbrelay_receiver_take_many,--wrap=kept_find,
+ * Built with -Wl,--wrap=free,--wrap=krbrelay_opener_open,--wrap=krbrelay_receiver_take_many,--wrap=openings_find,
  * --wrap=opening_session,--wrap=log_fields. */
 #include "check.h"
 #include "clock.h"
 #include "effects.h"
-#include "kept.h"
+#include "stored_openings.h"
 #include "log.h"
 #include "receipts.h"
 #include "shard.h"
@@ -27,7 +27,7 @@ static int freed;
 WRAPPED(free);
 WRAPPED(krbrelay_opener_open);
 WRAPPED(krbrelay_receiver_take_many);
-WRAPPED(kept_find);
+WRAPPED(openings_find);
 WRAPPED(opening_session);
 WRAPPED(log_fields);
 
@@ -76,7 +76,7 @@ static const struct opened streams[] = {
 enum { STREAMS = sizeof streams / sizeof *streams };
 static const char *unreadable = "";
 
-int __wrap_kept_find(struct store *store, struct kerberos *kerberos, const char *name, kept_take *take, void *given)
+int __wrap_kept_find(struct store *store, struct kerberos *kerberos, const char *name, openings_take *take, void *given)
 {
     size_t i;
     (void)store;

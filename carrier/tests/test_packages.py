@@ -9,7 +9,7 @@ import sys
 
 import pytest
 import sources as places
-import units
+import systemd_units
 
 HERE = os.path.dirname(os.path.abspath(__file__))
 SOURCES = os.path.dirname(HERE)
@@ -190,15 +190,15 @@ HARDENED = ("CapabilityBoundingSet", "NoNewPrivileges", "ProtectSystem", "Protec
 
 @pytest.mark.parametrize("unit", ["sender", "receiver"])
 def test_units_may_do_little(unit):
-    says = units.read(os.path.join(SOURCES, "systemd", f"krbrelay-{unit}@.service"))
+    says = systemd_units.read(os.path.join(SOURCES, "systemd", f"krbrelay-{unit}@.service"))
     assert [it for it in HARDENED if it not in says] == []
     assert says["ExecStart"].startswith(f"/usr/local/bin/krbrelay-{unit} ") and says["CapabilityBoundingSet"] == ""
 
 
 @pytest.mark.parametrize("unit", ["sender", "receiver"])
 def test_the_example_sets_what_the_unit_takes(unit):
-    says = units.read(os.path.join(SOURCES, "systemd", f"krbrelay-{unit}@.service"))
+    says = systemd_units.read(os.path.join(SOURCES, "systemd", f"krbrelay-{unit}@.service"))
     given = dict(line.split("=", 1) for line in text_of(f"systemd/example.{unit}").splitlines() if line[0] != "#")
-    words = units.Unit.expand(says["ExecStart"].split(), given)
+    words = systemd_units.Unit.expand(says["ExecStart"].split(), given)
     assert "--carrier" in words and not any("$" in it for it in words)
     assert set(re.findall(r"\$\{?([A-Z]+)", says["ExecStart"])) == set(given)

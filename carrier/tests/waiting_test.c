@@ -1,7 +1,7 @@
 /* Tests where programs wait, by what waiting.h says of it:  waiting_test FOLDER */
 #include "check.h"
 #include "clock.h"
-#include "ending.h"
+#include "signals.h"
 #include "waiting.h"
 
 #include <fcntl.h>

@@ -1,7 +1,7 @@
 /* The options of sessions that begin by tickets. */
 #include "carrier.h"
 #include "kerberos.h"
-#include "words.h"
+#include "option_words.h"
 
 void kerberos_check_options(const char *program, const struct kerberos_options *o,
                             const char *name, const char *value)

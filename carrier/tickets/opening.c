@@ -1,10 +1,10 @@
 #include "opening.h"
 #include "kerberos_inside.h"
 #include "log.h"
-#include "private.h"
+#include "owner_only.h"
 #include "sessions.h"
 #include "text.h"
-#include "words.h"
+#include "option_words.h"
 
 #include <errno.h>
 #include <string.h>
@@ -200,14 +200,14 @@ static int is_allowed(struct kerberos *k, krb5_const_principal client)
 {
     struct stat is;
     size_t size = 0;
-    char *text = private_read(k->options->allowed, &size, &is), *rest = NULL, *line;
+    char *text = owner_only_read(k->options->allowed, &size, &is), *rest = NULL, *line;
     int is_found = 0;
     if (text == NULL)
         return 0;
     for (line = strtok_r(text, "\n", &rest); line != NULL && !is_found;
          line = strtok_r(NULL, "\n", &rest))
         is_found = is_line(k, line, client);
-    private_forget(text, size);
+    owner_only_forget(text, size);
     return is_found;
 }
 

@@ -1,6 +1,6 @@
 #include "tickets.h"
 #include "clock.h"
-#include "ending.h"
+#include "signals.h"
 #include "kerberos_inside.h"
 #include "locks.h"
 #include "log.h"

@@ -1,7 +1,7 @@
-/* In the place of kerberos.c, opening.c, at_rest.c and tickets.c where MIT's library isn't
+/* In the place of kerberos.c, opening.c, key_wrapping.c and tickets.c where MIT's library isn't
  * installed: nothing is opened, so nothing else of them is called. */
-#include "at_rest.h"
-#include "ending.h"
+#include "key_wrapping.h"
+#include "signals.h"
 #include "log.h"
 #include "tickets.h"
 
@@ -51,19 +51,19 @@ enum opening_answer opening_take(struct kerberos *kerberos, unsigned shard, cons
     return (enum opening_answer)never();
 }
 
-int at_rest_wrap(struct kerberos *kerberos, int usage, const char *about, const uint8_t *key,
+int key_wrap(struct kerberos *kerberos, int usage, const char *about, const uint8_t *key,
                  size_t len, struct wrapped *to)
 {
     return never();
 }
 
-int at_rest_read(struct kerberos *kerberos, int usage, const char *about,
+int key_unwrap(struct kerberos *kerberos, int usage, const char *about,
                  const struct wrapped *from, uint8_t key[SESSION_KEY], size_t *len)
 {
     return never();
 }
 
-int at_rest_newest(struct kerberos *kerberos, uint32_t *kvno)
+int key_newest(struct kerberos *kerberos, uint32_t *kvno)
 {
     return never();
 }

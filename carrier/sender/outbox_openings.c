@@ -9,9 +9,9 @@
 enum { NAME, STREAM, BEFORE, ETYPE, TURN, SINCE, SHARD, CLOSED, KVNO, WRAPPING, KEY };
 
 /* What is wrapped with the key. */
-static void write_about(const struct opened *it, char about[AT_REST_ABOUT])
+static void write_about(const struct opened *it, char about[KEY_WRAPPING_ABOUT])
 {
-    write_whole(about, AT_REST_ABOUT, "%s %d %s %s", it->name, (int)it->etype, it->stream,
+    write_whole(about, KEY_WRAPPING_ABOUT, "%s %d %s %s", it->name, (int)it->etype, it->stream,
                 it->before[0] != 0 ? it->before : "-");
 }
 
@@ -53,7 +53,7 @@ static int find(struct outbox *o, enum outbox_statement which, struct kerberos *
 {
     struct statement *select = &o->statements[which];
     struct wrapped wrapped;
-    char about[AT_REST_ABOUT];
+    char about[KEY_WRAPPING_ABOUT];
     int row = step_row(select);
     memset(it, 0, sizeof *it);
     if (row == 1 && !read_columns(select->at, it, &wrapped))
@@ -62,7 +62,7 @@ static int find(struct outbox *o, enum outbox_statement which, struct kerberos *
     if (row != 1)
         return row;
     write_about(&it->opened, about);
-    return at_rest_read(kerberos, AT_REST_SENDER, about, &wrapped, it->opened.key,
+    return key_unwrap(kerberos, KEY_WRAPPING_SENDER, about, &wrapped, it->opened.key,
                         &it->opened.key_len) == 0 ? 1 : -1;
 }
 
@@ -108,9 +108,9 @@ int outbox_forget_ended(struct outbox *o, const struct begun *it, struct ended *
 int outbox_wrap(struct kerberos *kerberos, const struct begun *it, struct wrapped *wrapped)
 {
     const struct opened *opened = &it->opened;
-    char about[AT_REST_ABOUT];
+    char about[KEY_WRAPPING_ABOUT];
     write_about(opened, about);
-    return at_rest_wrap(kerberos, AT_REST_SENDER, about, opened->key, opened->key_len, wrapped);
+    return key_wrap(kerberos, KEY_WRAPPING_SENDER, about, opened->key, opened->key_len, wrapped);
 }
 
 int outbox_add_begun(struct outbox *o, const struct begun *it, const struct wrapped *wrapped)
@@ -163,7 +163,7 @@ int outbox_wrap_anew(struct outbox *o, struct kerberos *kerberos)
     char after[CARRIER_NAME] = "";
     uint32_t kvno;
     int found = 1;
-    if (at_rest_newest(kerberos, &kvno) != 0 || outbox_begin(o) != OUTBOX_OK)
+    if (key_newest(kerberos, &kvno) != 0 || outbox_begin(o) != OUTBOX_OK)
         return -1;
     while (found == 1 || (found < 0 && after[0] != 0)) /* one that can't be read is passed by */
         found = wrap_next(o, kerberos, kvno, after);

@@ -1,4 +1,4 @@
-#include "ending.h"
+#include "signals.h"
 
 #include <errno.h>
 #include <signal.h>

@@ -1,6 +1,6 @@
 /* Which texts are taken: those of a session in their order, and else in any.
  *
- * Each text is looked at once, and taken if its session has room (publish.c) and none of its older
+ * Each text is looked at once, and taken if its session has room (sender_turns.c) and none of its older
  * texts waits. Else the session has texts that wait: these are looked for by its name, the oldest first, once it
  * has room. What is left for good is of a session that is stopped or has no line. */
 #include "clock.h"
@@ -131,7 +131,7 @@ static enum seal_answer take_waiting(struct sender *s, struct sending **it, size
     enum seal_answer answer = SEAL_OK;
     sqlite3_int64 last = -1;
     int row = 0, is_taken = 1;
-    list_add(&s->touched, *it, &(*it)->is_touched); /* whatever comes of it: texts_give_up has its texts wait again */
+    list_add(&s->touched, *it, &(*it)->is_touched); /* whatever comes of it: intake_give_up has its texts wait again */
     (*it)->has_texts = 0;
     while (answer == SEAL_OK && is_taken && (row = outbox_next_text(select, &text)) == 1) {
         if (is_left(*it, &text))
@@ -176,18 +176,18 @@ static enum seal_answer take_sealable(struct sender *s)
     return answer;
 }
 
-int texts_wait(struct sender *s)
+int intake_wait(struct sender *s)
 {
     return s->sealable.count > 0 || outbox_may_have_text(&s->outbox, s->seen);
 }
 
-enum seal_answer texts_take(struct sender *s)
+enum seal_answer intake_take(struct sender *s)
 {
     enum seal_answer answer = take_sealable(s);
     return answer == SEAL_OK ? take_new(s) : answer;
 }
 
-void texts_give_up(struct sender *s, sqlite3_int64 seen)
+void intake_give_up(struct sender *s, sqlite3_int64 seen)
 {
     size_t i;
     s->seen = seen;

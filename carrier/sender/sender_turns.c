@@ -29,7 +29,7 @@ static void count(uint64_t *of_lane, uint64_t *of_all, uint64_t *of, uint64_t no
     *of = now;
 }
 
-int publish_has(const struct sending *it, enum krbrelay_answer answer)
+int turns_has(const struct sending *it, enum krbrelay_answer answer)
 {
     if (answer != KRBRELAY_OK)
         log_fact(LEVEL_ERROR, "progress_unknown", field_text("session", it->of.name),
@@ -37,9 +37,9 @@ int publish_has(const struct sending *it, enum krbrelay_answer answer)
     return answer == KRBRELAY_OK;
 }
 
-int publish_look(struct sender *s, struct sending *it)
+int turns_look(struct sender *s, struct sending *it)
 {
-    return publish_has(it, krbrelay_lane_session(&s->lanes[it->lane].ends, it->place, &it->end)) ? 0 : -1;
+    return turns_has(it, krbrelay_lane_session(&s->lanes[it->lane].ends, it->place, &it->end)) ? 0 : -1;
 }
 
 /* What is counted of a session is counted anew. */
@@ -48,7 +48,7 @@ static void count_anew(struct sender *s, struct sending *it)
     const struct krbrelay_progress *progress = &it->end.progress;
     struct lane *lane = &s->lanes[it->lane];
     uint64_t stored, undone, known;
-    if (publish_look(s, it) != 0)
+    if (turns_look(s, it) != 0)
         return; /* never: each session has its place */
     s->held -= it->is_held && progress->sent > 0;
     it->is_held = it->is_held && progress->sent == 0; /* a receipt says that its opening was taken before */
@@ -64,19 +64,19 @@ static void count_anew(struct sender *s, struct sending *it)
           it->stopped_at != 1 ? progress->carried - it->end.done : 0);
 }
 
-void publish_note(struct sender *s, struct sending *it)
+void turns_note(struct sender *s, struct sending *it)
 {
     count_anew(s, it);
     if (it->has_texts && it->room >= STORED / 2)
         list_add(&s->sealable, it, &it->is_sealable);
 }
 
-void publish_stop(struct sender *s, struct sending *it)
+void turns_stop(struct sender *s, struct sending *it)
 {
     if (it->stopped_at != 1)
         s->untold.at[s->untold.count++] = it;
     it->stopped_at = 1;
-    (void)publish_has(it, krbrelay_lane_stop(&s->lanes[it->lane].ends, it->place)); /* else it is told */
+    (void)turns_has(it, krbrelay_lane_stop(&s->lanes[it->lane].ends, it->place)); /* else it is told */
     s->held -= it->is_held != 0;
     it->is_held = 0;
     count_anew(s, it); /* there is nothing to do any more */
@@ -92,7 +92,7 @@ static void note_untaken(struct sender *s, struct sending *it, int answer, uint6
         return;
     write_cut(it->reason, sizeof it->reason, "the carrier doesn't take frame %llu: is it longer"
               " than its Maximum Payload?", (unsigned long long)number);
-    publish_stop(s, it);
+    turns_stop(s, it);
 }
 
 static int publish(struct sender *s, struct sending *it, uint64_t number, const uint8_t *frame, size_t len)
@@ -126,7 +126,7 @@ static void note_missing(struct sender *s, struct sending *it, uint64_t number)
     write_cut(it->reason, sizeof it->reason, "frame %llu isn't in the outbox any more, and no receipt says that it took"
               " effect: was it deleted, or the file mended? The session needs a new key",
               (unsigned long long)number);
-    publish_stop(s, it);
+    turns_stop(s, it);
 }
 
 /* Publishes frames of the outbox from a number on. What can't be read now leaves after its pause, as what the carrier
@@ -191,7 +191,7 @@ static void release(struct sender *s, struct sending *it)
     s->held += (size_t)(is_held != 0) - (size_t)(it->is_held != 0);
     it->is_held = is_held;
     if (!is_held && it->is_stored)
-        (void)publish_has(it, krbrelay_lane_release(&s->lanes[it->lane].ends, it->place)); /* else it is told */
+        (void)turns_has(it, krbrelay_lane_release(&s->lanes[it->lane].ends, it->place)); /* else it is told */
     count_anew(s, it);
 }
 
@@ -233,7 +233,7 @@ static void find_list(struct sender *s, struct lane *lane)
         log_system("out_of_memory", "sender"); /* the next round has it */
 }
 
-int publish_is_shard_away(const struct sender *s, const struct sending *it)
+int turns_is_shard_away(const struct sender *s, const struct sending *it)
 {
     uint64_t since = s->lanes[it->lane].unlisted;
     return since != 0 && milliseconds() - since >= AWAY;
@@ -251,7 +251,7 @@ static uint64_t serve_lane(struct sender *s, struct lane *lane)
     return left;
 }
 
-int publish_all(struct sender *s)
+int turns_all(struct sender *s)
 {
     uint64_t left = 0;
     size_t i;
@@ -268,7 +268,7 @@ int publish_all(struct sender *s)
 }
 
 /* A lane without sessions has no turn before; and where no session has anything to do, its last one may be long ago. */
-enum krbrelay_answer publish_set_time(struct sender *s, struct lane *lane)
+enum krbrelay_answer turns_set_time(struct sender *s, struct lane *lane)
 {
     enum krbrelay_answer answer = KRBRELAY_OK;
     if (lane->members.count == 0)
@@ -279,7 +279,7 @@ enum krbrelay_answer publish_set_time(struct sender *s, struct lane *lane)
 }
 
 /* A shard whose list can't be had is asked for again with the next round. */
-uint64_t publish_next_time(struct sender *s)
+uint64_t turns_next_time(struct sender *s)
 {
     uint64_t next = UINT64_MAX, at;
     size_t i;
@@ -312,7 +312,7 @@ static void note_next(struct sender *s, const struct sending *it)
 static void note_carried(struct sender *s, struct sending *it)
 {
     list_add(&s->dirty, it, &it->is_dirty);
-    publish_note(s, it);
+    turns_note(s, it);
     note_next(s, it);
 }
 
@@ -321,7 +321,7 @@ static void note_carried(struct sender *s, struct sending *it)
 static int take_confirmed(struct sender *s, struct sending *it, const struct confirmed *of, uint64_t now)
 {
     uint32_t counts = 0;
-    if (!publish_has(it, krbrelay_lane_confirmed(&s->lanes[it->lane].ends, it->place, of->number, of->offset, now, &counts)))
+    if (!turns_has(it, krbrelay_lane_confirmed(&s->lanes[it->lane].ends, it->place, of->number, of->offset, now, &counts)))
         return 0;
     if (of->number >= it->answered)
         it->answered = of->number + 1;
@@ -331,7 +331,7 @@ static int take_confirmed(struct sender *s, struct sending *it, const struct con
 }
 
 /* Confirmations of a session come one after another: it is noted once for all of them. */
-size_t publish_count_carried(struct sender *s, int milliseconds_to_wait)
+size_t turns_count_carried(struct sender *s, int milliseconds_to_wait)
 {
     struct confirmed list[COUNTED];
     struct sending *last = NULL;
@@ -349,5 +349,5 @@ size_t publish_count_carried(struct sender *s, int milliseconds_to_wait)
     }
     if (last != NULL)
         note_carried(s, last);
-    return found == COUNTED ? rose + publish_count_carried(s, 0) : rose;
+    return found == COUNTED ? rose + turns_count_carried(s, 0) : rose;
 }

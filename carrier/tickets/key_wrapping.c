@@ -1,4 +1,4 @@
-#include "at_rest.h"
+#include "key_wrapping.h"
 #include "kerberos_inside.h"
 #include "log.h"
 
@@ -33,15 +33,15 @@ static krb5_error_code wrap(struct kerberos *k, const krb5_keyblock *under, int 
     return code;
 }
 
-int at_rest_wrap(struct kerberos *k, int usage, const char *about, const uint8_t *key, size_t len,
+int key_wrap(struct kerberos *k, int usage, const char *about, const uint8_t *key, size_t len,
                  struct wrapped *to)
 {
-    char text[AT_REST_ABOUT + SESSION_KEY];
+    char text[KEY_WRAPPING_ABOUT + SESSION_KEY];
     size_t size = strlen(about) + 1;
     krb5_keytab_entry entry;
     krb5_data all;
     krb5_error_code code;
-    if (size > AT_REST_ABOUT || len > SESSION_KEY || find_key(k, 0, 0, &entry) != 0)
+    if (size > KEY_WRAPPING_ABOUT || len > SESSION_KEY || find_key(k, 0, 0, &entry) != 0)
         return -1;
     memcpy(text, about, size);
     memcpy(text + size, key, len);
@@ -69,10 +69,10 @@ static int take_key(const char *text, size_t size, const char *about, uint8_t ke
     return 0;
 }
 
-int at_rest_read(struct kerberos *k, int usage, const char *about, const struct wrapped *from,
+int key_unwrap(struct kerberos *k, int usage, const char *about, const struct wrapped *from,
                  uint8_t key[SESSION_KEY], size_t *len)
 {
-    char text[AT_REST_BYTES];
+    char text[KEY_WRAPPING_BYTES];
     krb5_keytab_entry entry;
     krb5_enc_data cipher = { .magic = KV5M_ENC_DATA, .enctype = from->etype };
     krb5_data all = { KV5M_DATA, sizeof text, text };
@@ -89,7 +89,7 @@ int at_rest_read(struct kerberos *k, int usage, const char *about, const struct 
     return answer;
 }
 
-int at_rest_newest(struct kerberos *k, uint32_t *kvno)
+int key_newest(struct kerberos *k, uint32_t *kvno)
 {
     krb5_keytab_entry entry;
     if (find_key(k, 0, 0, &entry) != 0)

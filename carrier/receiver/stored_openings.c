@@ -1,8 +1,8 @@
-#include "kept.h"
-#include "at_rest.h"
+#include "stored_openings.h"
+#include "key_wrapping.h"
 #include "log.h"
 #include "text.h"
-#include "words.h"
+#include "option_words.h"
 
 #include <stdlib.h>
 #include <string.h>
@@ -13,16 +13,16 @@ enum { NAME, STREAM, BEFORE, CLIENT, ETYPE, ENDS, KVNO, WRAPPING, KEY, HISTORY, 
 enum { TOGETHER = 64 }; /* rows that are wrapped anew at once */
 
 /* What is wrapped with the key. */
-static void write_about(const struct opened *it, char about[AT_REST_ABOUT])
+static void write_about(const struct opened *it, char about[KEY_WRAPPING_ABOUT])
 {
-    write_whole(about, AT_REST_ABOUT, "%s %d %s %s %s", it->name, (int)it->etype, it->stream,
+    write_whole(about, KEY_WRAPPING_ABOUT, "%s %d %s %s %s", it->name, (int)it->etype, it->stream,
                 it->before[0] != 0 ? it->before : "-", it->client);
 }
 
 /* Rows that are read: so many were, and the last one's name. */
 struct reading {
     struct kerberos *kerberos;
-    kept_take *take;
+    openings_take *take;
     void *given;
     size_t rows;
     char last[CARRIER_NAME];
@@ -61,13 +61,13 @@ static int read_columns(struct reading *r, const char *const *row)
 static int read_row(void *given, const char *const *row)
 {
     struct reading *r = given;
-    char about[AT_REST_ABOUT];
+    char about[KEY_WRAPPING_ABOUT];
     int answer;
     r->rows++;
     if (!copy_text(r->last, sizeof r->last, row[NAME]) || !read_columns(r, row))
         return 0;
     write_about(&r->it, about);
-    if (at_rest_read(r->kerberos, AT_REST_RECEIVER, about, &r->wrapped, r->it.key,
+    if (key_unwrap(r->kerberos, KEY_WRAPPING_RECEIVER, about, &r->wrapped, r->it.key,
                      &r->it.key_len) != 0)
         return 0;
     answer = r->take(r->given, &r->it);
@@ -75,7 +75,7 @@ static int read_row(void *given, const char *const *row)
     return answer;
 }
 
-int kept_find(struct store *store, struct kerberos *kerberos, const char *name, kept_take *take,
+int openings_find(struct store *store, struct kerberos *kerberos, const char *name, openings_take *take,
               void *given)
 {
     const struct value value = text_value(name);
@@ -98,7 +98,7 @@ static int compare_row(void *given, const char *const *row)
     return 0;
 }
 
-enum opening_answer kept_judge(struct store *store, const struct opened *it)
+enum opening_answer openings_judge(struct store *store, const struct opened *it)
 {
     const struct value values[] = { text_value(it->client), text_value(it->stream), text_value(it->before),
                                     text_value(it->name) };
@@ -113,7 +113,7 @@ enum opening_answer kept_judge(struct store *store, const struct opened *it)
 
 static int add_row(struct store *store, const struct opened *it, const struct wrapped *wrapped)
 {
-    char key[2 * AT_REST_BYTES + 1], history[HISTORY_TEXT];
+    char key[2 * KEY_WRAPPING_BYTES + 1], history[HISTORY_TEXT];
     history_write(&it->closed, history);
     write_hex(wrapped->bytes, wrapped->len, key);
     const struct value values[] = {
@@ -131,12 +131,12 @@ static int add_row(struct store *store, const struct opened *it, const struct wr
 
 static int wrap(struct kerberos *kerberos, const struct opened *it, struct wrapped *wrapped)
 {
-    char about[AT_REST_ABOUT];
+    char about[KEY_WRAPPING_ABOUT];
     write_about(it, about);
-    return at_rest_wrap(kerberos, AT_REST_RECEIVER, about, it->key, it->key_len, wrapped);
+    return key_wrap(kerberos, KEY_WRAPPING_RECEIVER, about, it->key, it->key_len, wrapped);
 }
 
-int kept_add(struct store *store, struct kerberos *kerberos, const struct opened *it)
+int openings_add(struct store *store, struct kerberos *kerberos, const struct opened *it)
 {
     struct wrapped wrapped;
     return wrap(kerberos, it, &wrapped) == 0 ? add_row(store, it, &wrapped) : -1;
@@ -155,7 +155,7 @@ static int note_some(void *given, const struct opened *it)
 static int wrap_again(struct store *store, struct kerberos *kerberos, const struct opened *it)
 {
     struct wrapped wrapped;
-    char key[2 * AT_REST_BYTES + 1];
+    char key[2 * KEY_WRAPPING_BYTES + 1];
     if (wrap(kerberos, it, &wrapped) != 0)
         return -1;
     write_hex(wrapped.bytes, wrapped.len, key);
@@ -173,12 +173,12 @@ static int wrap_some(struct store *store, struct kerberos *kerberos, const struc
     return store->settle(store);
 }
 
-int kept_wrap_anew(struct store *store, struct kerberos *kerberos, unsigned shard)
+int openings_wrap_anew(struct store *store, struct kerberos *kerberos, unsigned shard)
 {
     struct some *some = malloc(sizeof *some);
     struct reading r = { .kerberos = kerberos, .take = note_some, .given = some, .rows = TOGETHER };
     uint32_t kvno;
-    int answer = some != NULL ? at_rest_newest(kerberos, &kvno) : -1;
+    int answer = some != NULL ? key_newest(kerberos, &kvno) : -1;
     while (answer == 0 && r.rows == TOGETHER) {
         const struct value values[] = { number_value(shard), number_value(kvno), text_value(r.last) };
         r.rows = some->count = 0;

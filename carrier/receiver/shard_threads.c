@@ -1,6 +1,6 @@
-#include "serving.h"
+#include "shard_threads.h"
 #include "clock.h"
-#include "ending.h"
+#include "signals.h"
 #include "locks.h"
 #include "log.h"
 #include "service.h"
@@ -88,12 +88,12 @@ static int is_closed(const struct shard *shard)
     return shard->options->until_closed && shard->is_loaded && shard->open == 0;
 }
 
-void serving_prepare(struct served *it, unsigned shard)
+void threads_prepare(struct served *it, unsigned shard)
 {
     *it = (struct served){ .shard = { .options = serving.options, .number = shard }, .answered = nanoseconds() };
 }
 
-int serving_open(struct served *it)
+int threads_open(struct served *it)
 {
     if (shard_start(&it->shard) != 0)
         return -1;
@@ -116,7 +116,7 @@ static void step(struct served *it, uint64_t *until)
 }
 
 /* What has happened is shown within a second. */
-int serving_turn(struct served *it, uint64_t *until)
+int threads_turn(struct served *it, uint64_t *until)
 {
     uint64_t show;
     if (has_to_end(it) || is_closed(&it->shard))
@@ -131,7 +131,7 @@ int serving_turn(struct served *it, uint64_t *until)
     return 0;
 }
 
-void serving_finish(struct served *it)
+void threads_finish(struct served *it)
 {
     shard_pay_rest(&it->shard);
     shard_report(&it->shard, "shard_ended", nanoseconds() - it->began);
@@ -144,12 +144,12 @@ static void *work(void *given)
     struct thread *it = given;
     struct served *served = &it->served;
     uint64_t until = 0;
-    if (serving_open(served) == 0) {
+    if (threads_open(served) == 0) {
         set(&it->has_begun);
         waiting_wake(serving.owner);
-        while (!serving_turn(served, &until))
+        while (!threads_turn(served, &until))
             (void)waiting_until(&it->waiting, until); /* whatever came, a turn looks for it */
-        serving_finish(served);
+        threads_finish(served);
         if (is_closed(&served->shard))
             set(&it->is_closed);
     } else if (!is_ending() && !serving.come_and_go) {
@@ -164,7 +164,7 @@ static void *work(void *given)
 
 /* ---- All of them */
 
-int serving_begin(const struct shard_options *options, struct sessions *sessions, int come_and_go,
+int threads_begin(const struct shard_options *options, struct sessions *sessions, int come_and_go,
                   struct waiting *owner)
 {
     serving.options = options;
@@ -179,7 +179,7 @@ int serving_begin(const struct shard_options *options, struct sessions *sessions
     return -1;
 }
 
-void serving_use(struct sessions *sessions)
+void threads_use(struct sessions *sessions)
 {
     take_lock(&serving.lock);
     sessions_forget(serving.sessions);
@@ -187,14 +187,14 @@ void serving_use(struct sessions *sessions)
     give_lock(&serving.lock);
 }
 
-void serving_wake(void)
+void threads_wake(void)
 {
     unsigned i;
     for (i = 0; i < serving.count; i++)
         waiting_wake(&serving.threads[serving.shards[i]].waiting);
 }
 
-void serving_look_at_stores(void)
+void threads_look_at_stores(void)
 {
     unsigned i;
     for (i = 0; i < serving.count; i++) {
@@ -209,11 +209,11 @@ void serving_look_at_stores(void)
     }
 }
 
-int serving_start(unsigned shard)
+int threads_start(unsigned shard)
 {
     struct thread *it = &serving.threads[shard];
     *it = (struct thread){ .state = SHARD_SERVED };
-    serving_prepare(&it->served, shard);
+    threads_prepare(&it->served, shard);
     waiting_begin(&it->waiting, 0);
     service_expect(shard);
     if (pthread_create(&it->thread, NULL, work, it) == 0) {
@@ -228,14 +228,14 @@ int serving_start(unsigned shard)
     return 0;
 }
 
-void serving_leave(unsigned shard)
+void threads_leave(unsigned shard)
 {
     serving.threads[shard].state = SHARD_LEFT;
     set(&serving.threads[shard].served.is_left);
     waiting_wake(&serving.threads[shard].waiting);
 }
 
-unsigned serving_join(void)
+unsigned threads_join(void)
 {
     unsigned i, before = serving.count, count = 0;
     for (i = 0; i < before; i++) {
@@ -254,17 +254,17 @@ unsigned serving_join(void)
     return before - count;
 }
 
-enum shard_state serving_state(unsigned shard)
+enum shard_state threads_state(unsigned shard)
 {
     return serving.threads[shard].state;
 }
 
-unsigned serving_count(void)
+unsigned threads_count(void)
 {
     return serving.count;
 }
 
-int serving_is_unanswered(void)
+int threads_is_unanswered(void)
 {
     uint64_t now = nanoseconds();
     unsigned shard, served = 0;
@@ -277,7 +277,7 @@ int serving_is_unanswered(void)
     return served > 0;
 }
 
-int serving_is_ready(void)
+int threads_is_ready(void)
 {
     unsigned shard;
     for (shard = 0; shard < CARRIER_SHARDS; shard++)
@@ -287,17 +287,17 @@ int serving_is_ready(void)
     return 1;
 }
 
-int serving_failed(void)
+int threads_failed(void)
 {
     return is_set(&serving.failed);
 }
 
-int serving_has_closed(unsigned shard)
+int threads_has_closed(unsigned shard)
 {
     return serving.threads[shard].has_closed;
 }
 
-void serving_end(void)
+void threads_end(void)
 {
     sessions_forget(serving.sessions);
     free(serving.threads);

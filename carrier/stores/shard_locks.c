@@ -1,4 +1,4 @@
-#include "sharing.h"
+#include "shard_locks.h"
 #include "log.h"
 
 #include <errno.h>
@@ -11,10 +11,10 @@
 enum { RECEIVERS = 256 }; /* the most that share one file */
 
 /* Byte N of the file is shard N; those from CARRIER_SHARDS on are the receivers'. */
-struct file_sharing { struct sharing base; int file; unsigned own; /* this receiver's byte; 0: none */ };
+struct file_locks { struct shard_locks base; int file; unsigned own; /* this receiver's byte; 0: none */ };
 
 /* Asks something of a byte's lock: F_OFD_SETLK, or F_OFD_GETLK, whose answer is the lock's type. */
-static int ask(const struct file_sharing *s, int what, short type, unsigned byte)
+static int ask(const struct file_locks *s, int what, short type, unsigned byte)
 {
     struct flock lock = { .l_type = type, .l_whence = SEEK_SET, .l_start = byte, .l_len = 1 };
     if (fcntl(s->file, what, &lock) == 0)
@@ -26,7 +26,7 @@ static int ask(const struct file_sharing *s, int what, short type, unsigned byte
 }
 
 /* Takes the first byte of a receiver that is free. */
-static int be_counted(struct file_sharing *s)
+static int be_counted(struct file_locks *s)
 {
     unsigned i;
     int taken = s->own != 0;
@@ -37,9 +37,9 @@ static int be_counted(struct file_sharing *s)
     return taken == 1;
 }
 
-static int count(struct sharing *base)
+static int count(struct shard_locks *base)
 {
-    struct file_sharing *s = (struct file_sharing *)base;
+    struct file_locks *s = (struct file_locks *)base;
     unsigned i;
     int others = 0;
     if (s->base.is_cut_off && s->own != 0 && ask(s, F_OFD_SETLK, F_UNLCK, s->own) == 1)
@@ -55,26 +55,26 @@ static int count(struct sharing *base)
     return others + (s->own != 0);
 }
 
-static int take(struct sharing *base, unsigned shard)
+static int take(struct shard_locks *base, unsigned shard)
 {
-    return ask((struct file_sharing *)base, F_OFD_SETLK, F_WRLCK, shard);
+    return ask((struct file_locks *)base, F_OFD_SETLK, F_WRLCK, shard);
 }
 
-static void give_back(struct sharing *base, unsigned shard)
+static void give_back(struct shard_locks *base, unsigned shard)
 {
-    if (ask((struct file_sharing *)base, F_OFD_SETLK, F_UNLCK, shard) != 1)
+    if (ask((struct file_locks *)base, F_OFD_SETLK, F_UNLCK, shard) != 1)
         log_system("shards_unlocked", "fcntl");
 }
 
-static void close_it(struct sharing *base)
+static void close_it(struct shard_locks *base)
 {
-    struct file_sharing *s = (struct file_sharing *)base;
+    struct file_locks *s = (struct file_locks *)base;
     if (s->file >= 0 && close(s->file) != 0)
         log_system("shards_unlocked", "close");
     free(s);
 }
 
-static int be_there(struct file_sharing *s, const char *path)
+static int be_there(struct file_locks *s, const char *path)
 {
     char name[512];
     if ((size_t)snprintf(name, sizeof name, "%s.shards", path) >= sizeof name)
@@ -87,56 +87,56 @@ static int be_there(struct file_sharing *s, const char *path)
     return be_counted(s);
 }
 
-static struct sharing *file_sharing_open(const char *path)
+static struct shard_locks *file_locks_open(const char *path)
 {
-    static const struct sharing_calls calls = { count, take, give_back, close_it };
-    struct file_sharing *s = sharing_make(sizeof *s, &calls);
+    static const struct shard_locks_calls calls = { count, take, give_back, close_it };
+    struct file_locks *s = shard_locks_make(sizeof *s, &calls);
     if (s == NULL)
         return NULL;
     s->file = -1;
-    return sharing_made(&s->base, be_there(s, path));
+    return shard_locks_made(&s->base, be_there(s, path));
 }
 
 /* ---- */
 
-void *sharing_make(size_t size, const struct sharing_calls *calls)
+void *shard_locks_make(size_t size, const struct shard_locks_calls *calls)
 {
-    struct sharing *it = calloc(1, size);
+    struct shard_locks *it = calloc(1, size);
     if (it != NULL)
         it->calls = calls;
     return it;
 }
 
-struct sharing *sharing_made(struct sharing *sharing, int is_open)
+struct shard_locks *shard_locks_made(struct shard_locks *locks, int is_open)
 {
     if (is_open)
-        return sharing;
-    sharing->calls->close(sharing);
+        return locks;
+    locks->calls->close(locks);
     return NULL;
 }
 
-struct sharing *sharing_open(const char *where)
+struct shard_locks *shard_locks_open(const char *where)
 {
     if (strncmp(where, "sqlite:", 7) == 0)
-        return file_sharing_open(where + 7);
+        return file_locks_open(where + 7);
 #ifdef WITH_POSTGRESQL
     if (strncmp(where, "postgresql:", 11) == 0)
-        return postgresql_sharing_open(where);
+        return postgresql_shard_locks_open(where);
 #endif
     log_fact(LEVEL_ERROR, "shards_unshared",
              field_text("text", "receivers share shards over sqlite:FILE or postgresql://.."));
     return NULL;
 }
 
-int sharing_take(struct sharing *sharing, unsigned shard)
+int shard_locks_take(struct shard_locks *locks, unsigned shard)
 {
-    int answer = sharing->calls->take(sharing, shard);
-    sharing->has[shard] = answer == 1;
+    int answer = locks->calls->take(locks, shard);
+    locks->has[shard] = answer == 1;
     return answer;
 }
 
-void sharing_give_back(struct sharing *sharing, unsigned shard)
+void shard_locks_give_back(struct shard_locks *locks, unsigned shard)
 {
-    sharing->has[shard] = 0;
-    sharing->calls->give_back(sharing, shard);
+    locks->has[shard] = 0;
+    locks->calls->give_back(locks, shard);
 }

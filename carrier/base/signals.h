@@ -2,8 +2,8 @@
  *
  * What can't look, as it waits for a server that is cut off, has four seconds. Then the process ends
  * all the same: that is as harmless as SIGKILL. */
-#ifndef ENDING_H
-#define ENDING_H
+#ifndef SIGNALS_H
+#define SIGNALS_H
 
 /* From now on these signals only ask for the end. */
 void end_by_signals(void);

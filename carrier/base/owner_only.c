@@ -1,4 +1,4 @@
-#include "private.h"
+#include "owner_only.h"
 #include "log.h"
 
 #include <fcntl.h>
@@ -49,7 +49,7 @@ static char *read_text(int file, const char *path, size_t *size, const struct st
     return text;
 }
 
-char *private_read(const char *path, size_t *size, struct stat *is)
+char *owner_only_read(const char *path, size_t *size, struct stat *is)
 {
     int file = open(path, O_RDONLY | O_CLOEXEC);
     char *text = NULL;
@@ -60,17 +60,17 @@ char *private_read(const char *path, size_t *size, struct stat *is)
     if (file < 0 || close(file) == 0 || text == NULL)
         return text;
     log_system("file_unread", path);
-    private_forget(text, *size);
+    owner_only_forget(text, *size);
     return NULL;
 }
 
-int private_is(const char *path)
+int owner_only_is(const char *path)
 {
     struct stat is;
     return stat(path, &is) != 0 || is_private(&is, path);
 }
 
-void private_forget(char *text, size_t size)
+void owner_only_forget(char *text, size_t size)
 {
     if (text != NULL)
         explicit_bzero(text, size);

@@ -1,7 +1,7 @@
 /* The shards that a receiver serves: a thread for each, which waits by itself until it is woken. All is called by one
  * thread, which isn't one of these, and is woken where one of them has begun or has ended. */
-#ifndef SERVING_H
-#define SERVING_H
+#ifndef SHARD_THREADS_H
+#define SHARD_THREADS_H
 
 #include "shard.h"
 #include "waiting.h"
@@ -14,39 +14,39 @@ enum shard_state {
 
 /* Prepares all. If shards come and go, one that can't be started is no fault. 0, or -1 without
  * memory. */
-int serving_begin(const struct shard_options *options, struct sessions *sessions, int come_and_go,
+int threads_begin(const struct shard_options *options, struct sessions *sessions, int come_and_go,
                   struct waiting *owner);
 
 /* From now on these are the sessions of all. */
-void serving_use(struct sessions *sessions);
+void threads_use(struct sessions *sessions);
 
 /* Something has come: all shards look for it. Another file may be in the place of a store: its shards look. */
-void serving_wake(void);
-void serving_look_at_stores(void);
+void threads_wake(void);
+void threads_look_at_stores(void);
 
 /* Starts a shard's thread; 0 if that isn't possible. */
-int serving_start(unsigned shard);
+int threads_start(unsigned shard);
 
 /* Its thread ends after its transaction. */
-void serving_leave(unsigned shard);
+void threads_leave(unsigned shard);
 
 /* Makes shards idle whose threads have ended: how many. */
-unsigned serving_join(void);
+unsigned threads_join(void);
 
-enum shard_state serving_state(unsigned shard);
+enum shard_state threads_state(unsigned shard);
 
 /* How many threads there are; whether all of them have begun; whether one couldn't. */
-unsigned serving_count(void);
-int serving_is_ready(void);
-int serving_failed(void);
+unsigned threads_count(void);
+int threads_is_ready(void);
+int threads_failed(void);
 
 /* Whether there are threads, and the carrier has answered none of them for ten seconds. */
-int serving_is_unanswered(void);
+int threads_is_unanswered(void);
 
 /* Whether the thread of a shard that is idle has ended since all its sessions are closed. */
-int serving_has_closed(unsigned shard);
+int threads_has_closed(unsigned shard);
 
-void serving_end(void);
+void threads_end(void);
 
 /* ---- One shard, as its thread serves it turn by turn. */
 
@@ -59,17 +59,17 @@ struct served {
     int is_left;                /* and sets this: it is to end */
 };
 
-/* The shard is to be served, by serving_begin's options. */
-void serving_prepare(struct served *it, unsigned shard);
+/* The shard is to be served, by threads_begin's options. */
+void threads_prepare(struct served *it, unsigned shard);
 
 /* Opens it. 0, or -1 after a fault. After both shard_stop has to be called in the end. */
-int serving_open(struct served *it);
+int threads_open(struct served *it);
 
-/* One step of the shard, with the sessions of serving_use; the next one is due at *until, as that of shard_step. 1 if there
+/* One step of the shard, with the sessions of threads_use; the next one is due at *until, as that of shard_step. 1 if there
  * is none since it is to end, or all its sessions are closed and that is the end. */
-int serving_turn(struct served *it, uint64_t *until);
+int threads_turn(struct served *it, uint64_t *until);
 
 /* Receipts that are due leave, and what was done is reported: after the last turn. */
-void serving_finish(struct served *it);
+void threads_finish(struct served *it);
 
 #endif

@@ -2,15 +2,15 @@
  * Each receiver also has a shared lock, by which all are counted. */
 #include "log.h"
 #include "postgresql.h"
-#include "sharing.h"
+#include "shard_locks.h"
 #include "text.h"
 
 #include <stdio.h>
 #include <stdlib.h>
 #include <string.h>
 
-struct postgresql_sharing {
-    struct sharing base;
+struct postgresql_shard_locks {
+    struct shard_locks base;
     const char *where;
     PGconn *db;  /* NULL: it has to be opened (again) */
     int is_counted;
@@ -30,7 +30,7 @@ static int read_value(const PGresult *result, int column, char *text, size_t roo
 
 /* The first value of the first row of a statement with one or two values, as a text; "" after a
  * fault, after which the connection isn't used any more. */
-static const char *ask(struct postgresql_sharing *s, const char *sql, unsigned shard, char text[32])
+static const char *ask(struct postgresql_shard_locks *s, const char *sql, unsigned shard, char text[32])
 {
     char number[16];
     const char *const values[] = { s->class, number };
@@ -56,7 +56,7 @@ static const char *const counted[] = { "SELECT pg_advisory_unlock_shared($1::int
 enum { COUNTED = 2147483647 };
 
 /* Has this receiver be counted, unless it is cut off. */
-static int be_counted(struct postgresql_sharing *s)
+static int be_counted(struct postgresql_shard_locks *s)
 {
     char text[32];
     int is_wanted = !s->base.is_cut_off;
@@ -68,7 +68,7 @@ static int be_counted(struct postgresql_sharing *s)
     return 1;
 }
 
-static int be_there(struct postgresql_sharing *s)
+static int be_there(struct postgresql_shard_locks *s)
 {
     PGresult *result;
     int is_fine = 0;
@@ -91,9 +91,9 @@ static int be_there(struct postgresql_sharing *s)
     return 0;
 }
 
-static int take(struct sharing *base, unsigned shard)
+static int take(struct shard_locks *base, unsigned shard)
 {
-    struct postgresql_sharing *s = (struct postgresql_sharing *)base;
+    struct postgresql_shard_locks *s = (struct postgresql_shard_locks *)base;
     char text[32];
     if (s->db == NULL)
         return -1;
@@ -101,29 +101,29 @@ static int take(struct sharing *base, unsigned shard)
     return text[0] == 0 ? -1 : text[0] == 't';
 }
 
-static void give_back(struct sharing *base, unsigned shard)
+static void give_back(struct shard_locks *base, unsigned shard)
 {
-    struct postgresql_sharing *s = (struct postgresql_sharing *)base;
+    struct postgresql_shard_locks *s = (struct postgresql_shard_locks *)base;
     char text[32];
     if (s->db != NULL)
         ask(s, "SELECT pg_advisory_unlock($1::int, $2::int)", shard, text);
 }
 
 /* Opens the connection again, and takes the locks that were lost with it. */
-static int come_again(struct postgresql_sharing *s)
+static int come_again(struct postgresql_shard_locks *s)
 {
     unsigned shard;
     if (!be_there(s))
         return 0;
     for (shard = 0; shard < CARRIER_SHARDS && s->db != NULL; shard++)
         if (s->base.has[shard])
-            (void)sharing_take(&s->base, shard); /* `has` says whether it is taken */
+            (void)shard_locks_take(&s->base, shard); /* `has` says whether it is taken */
     return s->db != NULL;
 }
 
-static int count(struct sharing *base)
+static int count(struct shard_locks *base)
 {
-    struct postgresql_sharing *s = (struct postgresql_sharing *)base;
+    struct postgresql_shard_locks *s = (struct postgresql_shard_locks *)base;
     char text[32];
     if ((s->db == NULL && !come_again(s)) || !be_counted(s))
         return -1;
@@ -134,19 +134,19 @@ static int count(struct sharing *base)
     return text[0] == 0 ? -1 : atoi(text);
 }
 
-static void close_it(struct sharing *base)
+static void close_it(struct shard_locks *base)
 {
-    struct postgresql_sharing *s = (struct postgresql_sharing *)base;
+    struct postgresql_shard_locks *s = (struct postgresql_shard_locks *)base;
     PQfinish(s->db);
     free(s);
 }
 
-struct sharing *postgresql_sharing_open(const char *where)
+struct shard_locks *postgresql_shard_locks_open(const char *where)
 {
-    static const struct sharing_calls calls = { count, take, give_back, close_it };
-    struct postgresql_sharing *s = sharing_make(sizeof *s, &calls);
+    static const struct shard_locks_calls calls = { count, take, give_back, close_it };
+    struct postgresql_shard_locks *s = shard_locks_make(sizeof *s, &calls);
     if (s == NULL)
         return NULL;
     s->where = where;
-    return sharing_made(&s->base, be_there(s));
+    return shard_locks_made(&s->base, be_there(s));
 }

@@ -1,4 +1,4 @@
-#include "words.h"
+#include "option_words.h"
 
 #include <krbrelay.h>
 #include <stdarg.h>

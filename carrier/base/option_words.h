@@ -1,6 +1,6 @@
 /* Numbers in words of command lines and files: digits alone, within a range. */
-#ifndef WORDS_H
-#define WORDS_H
+#ifndef OPTION_WORDS_H
+#define OPTION_WORDS_H
 
 #include <stdint.h>
 
