@@ -76,7 +76,7 @@ static const struct opened streams[] = {
 enum { STREAMS = sizeof streams / sizeof *streams };
 static const char *unreadable = "";
 
-int __wrap_kept_find(struct store *store, struct kerberos *kerberos, const char *name, openings_take *take, void *given)
+int __wrap_openings_find(struct store *store, struct kerberos *kerberos, const char *name, openings_take *take, void *given)
 {
     size_t i;
     (void)store;
