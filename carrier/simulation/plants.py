@@ -93,7 +93,7 @@ if (nanoseconds() > 30 * SECOND && nanoseconds() < 500 * SECOND) {
     "a list that was cut off is waited for": ("cut", 5, "STANDS"),
     "an opening is taken on any history": ("forked+killed+tickets", 1, "OVERTAKEN"),
     "an opening is taken before the close before it": ("cut+killed+slow+tickets", 63, "OVERTAKEN"),
-    "another session of a turn that was had begins": ("cut+killed+slow+tickets", 41, "OVERTAKEN"),
+    "another session of a turn that was had begins": ("cut+killed+slow+tickets", 3, "OVERTAKEN"),
     "the window stays after a silence": ("silent+bursts", 2, "FLOOD"),
     "a refused frame isn't held": ("skewed", 3, "UNTRUE"),
     "the pause of asks doesn't grow": ("skewed", 1, "FLOOD"),
@@ -111,7 +111,7 @@ MADE_UP = {
     "confirmed counts out of order": (
         "the receiver misses the frame and asks for it", ("lost+killed", "carrier+killed", "lost+tickets", "calm")),
     "a confirmation counts at any offset": (
-        "the receiver misses the frame and asks for it", ("cut", "cut+killed", "cut+deleted+lost", "cut+stopped")),
+        "the receiver misses the frame and asks for it", ("cut", "cut+lost+killed", "cut+deleted+lost", "cut+stopped")),
     "another list: goes on at what was carried": (
         "the receiver misses the frame and asks for it",
         ("deleted+stopped", "deleted+lost+killed", "cut+deleted", "cut+deleted+stopped")),
