@@ -58,10 +58,11 @@ void ends_use_sessions(unsigned within)
     sessions_forget(file);
 }
 
+/* One that has none yet reads the file as it is, as a program at its start. */
 static void give_sessions(int party)
 {
     struct its *to = &files[party - RECEIVER];
-    if (to->later != NULL && to->from <= now) {
+    if (to->later != NULL && (to->now == NULL || to->from <= now)) {
         sessions_forget(to->now);
         to->now = to->later;
         to->later = NULL;
