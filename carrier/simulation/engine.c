@@ -170,7 +170,7 @@ static void note_turn(const struct krbrelay_lane *handle, const struct krbrelay_
             rule_broken(RULE_UNFAIR, "a session waits, and %d that waited for less long were served", MOST_OVERTAKEN);
 }
 
-/* The fault: the lane is told of what was sealed for the session that began to wait last; or of one frame of a session
+/* The fault: the lane hears of what was sealed for the session that began to wait last; or of one frame of a session
  * of which all others are carried. 0: of none. */
 static int tell_more(struct krbrelay_lane *handle)
 {
@@ -271,7 +271,7 @@ WRAPPED(uint32_t, krbrelay_lane_turn, struct krbrelay_lane *handle, uint64_t at_
     return 1;
 }
 
-/* ---- What a session's end is told */
+/* ---- What a session's end hears */
 
 WRAPPED(enum krbrelay_answer, krbrelay_lane_confirmed, struct krbrelay_lane *handle, uint32_t place, uint64_t number,
         uint64_t offset, uint64_t at_now, uint32_t *counts)
