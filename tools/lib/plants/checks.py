@@ -133,7 +133,7 @@ def carrier(copy: Copy, what: str) -> Told:
     if not built:
         return built, said
     os.makedirs(folder, exist_ok=True)
-    return copy.run([made, f"sqlite:{folder}/store.db" if what == "store_test" else folder])
+    return copy.run([made, f"sqlite:{folder}/{what}.db" if what in ("store_test", "carrier_test") else folder])
 
 
 def carrier_case(copy: Copy, form: str, *cases: str) -> Told:

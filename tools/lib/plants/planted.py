@@ -8,7 +8,7 @@ from lib.build import building
 
 TABLES = ("tests/plants.toml", "tests/wrapped_plants.toml", "tests/package_plants.toml",
           "tests/carrier_plants.toml", "tests/tool_plants.toml", "tests/two_fault_plants.toml",
-          "tests/beside_plants.toml")
+          "tests/beside_plants.toml", "tests/class_plants.toml")
 
 
 class NoPlant(Exception):
