@@ -1,6 +1,8 @@
 //! A session key with the keys derived from it.
 
-ghost use Rattle.std.specs.Prelude.{◌≡◌, ◌≤◌, ◌↔◌, ◌+◌, ◌++◌, IfSome, IsFalse, IsTrue, false, length};
+ghost use Rattle.std.specs.Prelude.{◌≡◌, ◌≤◌, ◌↔◌, ◌+◌, ◌++◌, IfNone, IfSome, IsSome, false, length};
+ghost use Rattle.std.specs.Borrow.{sem};
+ghost use Rattle.std.specs.Io.BufRead.{Rests};
 ghost use Rattle.krb_aes.specs.Keys.{expanded_key};
 ghost use Rattle.krb_aes.specs.Stealing.{cts};
 ghost use Rattle.krb_base.specs.Bytes.{AreBytes, AreZero};
@@ -86,6 +88,8 @@ impl Model for Keys {
 }
 
 impl Keys {
+    ghost use Rattle.krb_etype.specs.contracts.keys.Keys.{the_row};
+
     /// Derives the keys of a session key for an end and a purpose.
     pub fn new(base: CipherKey, end: End, purpose: Purpose) -> Keys
         ensures { result ≡ fresh_keys base end purpose }
@@ -237,15 +241,17 @@ impl Keys {
         self.private().encipher_four(a, b, c, d);
     }
 
-    /// Makes the key of the codes that its purpose asks for ready for eight texts at a time, unless it is.
-    /// So what makes one code at a time doesn't pay for it. Answers whether that key is there: wiped keys have none.
-    pub fn prepare_batch(&mut self) -> bool
-        ensures there { IsTrue result ↔ self.old.wiped ≡ false }
-        ensures none { IsFalse result → AreZero self.old.key }
-        ensures same { self.new ≡ self.old }
+    /// Makes the key of the codes that its purpose asks for ready for eight texts at a time, unless it is, and
+    /// gives it. So what makes one code at a time doesn't pay for it. Wiped keys have none.
+    pub fn prepare_batch(&mut self) -> Option<&BatchMac>
+        ensures there { IsSome result ↔ self.old.wiped ≡ false }
+        ensures key { IfSome result (λ mac.
+            HoldsBatchKey mac.now (code_key self.old.purpose self.old.key)) }
+        ensures zeros { IfNone result (AreZero self.old.key) }
+        ensures* same { sem 𝓛 (Rests the_row self.entry (λ new. new ≡ self.old)) }
     {
         if self.wiped {
-            return false;
+            return None;
         }
         if self.batch.is_none() {
             let key = match self.purpose {
@@ -254,7 +260,7 @@ impl Keys {
             };
             end_batch(self.batch.replace(key));
         }
-        self.batch.is_some()
+        self.batch.as_ref()
     }
 
     /// That key, if it was made ready.

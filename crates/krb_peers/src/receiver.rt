@@ -1,11 +1,14 @@
 //! The receiver of a lane.
 
-ghost use Rattle.std.specs.Prelude.{◌≡◌, ◌⊎◌, ◌+◌, ◌<◌, ◌≤◌, length, replicate, IsFalse, IsTrue, IfErr, IfOk, Ok, Err, OnOk, OnErr};
+ghost use Rattle.std.specs.Prelude.{◌≡◌, ◌⊎◌, ◌+◌, ◌<◌, ◌≤◌, length, replicate, IsTrue, IfErr, IfNone, IfOk, IfSome, Ok, Err, OnOk, OnErr};
+ghost use Rattle.std.specs.Borrow.{sem};
+ghost use Rattle.std.specs.Io.BufRead.{Rests};
 ghost use Rattle.std.specs.Option.{ForSome};
 ghost use Rattle.krb_base.specs.Bytes.{AreZero};
 ghost use Rattle.krb_base.specs.Limits.{last_number};
 ghost use Rattle.krb_record.specs.Record.{is_close, kind_of};
-ghost use Rattle.krb_seal.specs.Covered.{IsCodedFrame};
+ghost use Rattle.krb_keys.specs.BatchMac.{HoldsBatchKey};
+ghost use Rattle.krb_seal.specs.Covered.{IsCodedFrame, code_key_of};
 ghost use Rattle.krb_seal.specs.Number.{TellsNoOther, TellsNumber};
 ghost use Rattle.krb_seal.specs.Opens.{Opens};
 ghost use Rattle.krb_seal.specs.Unseals.{untold};
@@ -21,6 +24,7 @@ use crate::log::Log;
 use crate::order::Order;
 use krb_base::{Bytes, Secret};
 use krb_der::Moment;
+use krb_keys::BatchMac;
 use krb_record::{RecordError, RecordKind, into_record};
 use krb_seal::{Coded, Opener, Refusal, Unopened};
 use std::alloc::{AllocError, Global};
@@ -74,6 +78,8 @@ impl Model for Receiver {
 }
 
 impl Receiver {
+    ghost use Rattle.krb_peers.specs.contracts.receiver.Receiver.{the_row};
+
     /// A receiver that has taken nothing, and demands the number `first`.
     pub fn new(opener: Opener, first: u32) -> Receiver
         ensures opener { result.opener ≡ opener }
@@ -121,10 +127,11 @@ impl Receiver {
         &self.opener
     }
 
-    /// Makes the key of its frames' codes ready for eight at a time, as [`Opener::prepare_batch`] does, and answers as it.
-    pub fn prepare_batch(&mut self) -> bool
-        ensures there { IsFalse result → AreZero self.old.opener.key }
-        ensures same { self.new ≡ self.old }
+    /// Makes the key of its frames' codes ready for eight at a time, and gives it, as [`Opener::prepare_batch`] does.
+    pub fn prepare_batch(&mut self) -> Option<&BatchMac>
+        ensures key { IfSome result (λ mac. HoldsBatchKey mac.now (code_key_of self.old.opener)) }
+        ensures none { IfNone result (AreZero self.old.opener.key) }
+        ensures* same { sem 𝓛 (Rests the_row self.entry (λ new. new ≡ self.old)) }
     {
         self.opener.prepare_batch()
     }

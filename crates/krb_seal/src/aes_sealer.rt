@@ -1,8 +1,13 @@
 //! The sealers.
 
-ghost use Rattle.std.specs.Prelude.{◌≡◌, ◌≤◌, ◌+◌, ◌↔◌, replicate, pos, IsTrue, false};
+ghost use Rattle.std.specs.Prelude.{◌≡◌, ◌≤◌, ◌+◌, ◌↔◌, replicate, pos, IfSome, IsSome, false};
+ghost use Rattle.std.specs.Borrow.{sem};
+ghost use Rattle.std.specs.Io.BufRead.{Rests};
 ghost use Rattle.krb_base.specs.Limits.{user_data_limit};
+ghost use Rattle.krb_etype.specs.CodeKey.{code_key};
 ghost use Rattle.krb_etype.specs.Etype.{number_of};
+ghost use Rattle.krb_keys.specs.BatchMac.{HoldsBatchKey};
+ghost use Rattle.krb_seal.specs.Mode.{purpose_of};
 ghost use Rattle.krb_seal.specs.Session.{HasShortAddresses};
 ghost use Rattle.krb_seal.specs.Sealer.{HasFrameSize, end_of_numbers, in_mode, new_state};
 ghost use Rattle.krb_seal.specs.Lent.{advanced_by, keys_of};
@@ -14,6 +19,7 @@ use crate::session::{Mode, Session};
 use krb_base::{LAST_NUMBER, USER_DATA_LIMIT};
 use krb_der::{BodyRef, Moment};
 use krb_etype::{End, Etype, Keys, SessionKey};
+use krb_keys::BatchMac;
 use std::alloc::Global;
 use std::marker::{Model, PhantomData};
 
@@ -122,6 +128,8 @@ impl AesSealer<Any> {
 }
 
 impl<E> AesSealer<E> {
+    ghost use Rattle.krb_seal.specs.contracts.aes_sealer.AesSealer.{the_row};
+
     /// Whether its keys were overwritten.
     pub fn is_wiped(&self) -> bool
         ensures { result ≡ self.now.wiped }
@@ -153,11 +161,12 @@ impl<E> AesSealer<E> {
     }
 
     /// Makes the key of its codes ready for eight messages at a time, for what seals several with its
-    /// [`AesSealer::parts`]. What seals one at a time doesn't need it. Answers whether it is there: a wiped sealer has
-    /// none.
-    pub fn prepare_batch(&mut self) -> bool
-        ensures there { IsTrue result ↔ self.old.wiped ≡ false }
-        ensures same { self.new ≡ self.old }
+    /// [`AesSealer::parts`], and gives it. What seals one at a time doesn't need it. A wiped sealer has none.
+    pub fn prepare_batch(&mut self) -> Option<&BatchMac>
+        ensures there { IsSome result ↔ self.old.wiped ≡ false }
+        ensures key { IfSome result (λ mac.
+            HoldsBatchKey mac.now (code_key (purpose_of self.old.session.mode) self.old.key)) }
+        ensures* same { sem 𝓛 (Rests (the_row E.row) self.entry (λ new. new ≡ self.old)) }
     {
         self.keys.prepare_batch()
     }

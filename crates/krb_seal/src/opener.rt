@@ -1,6 +1,8 @@
 //! The opener of a session's frames.
 
-ghost use Rattle.std.specs.Prelude.{◌≡◌, ◌≤◌, pos, true, length, replicate, Err, IfErr, IfOk, IfSome, IsFalse};
+ghost use Rattle.std.specs.Prelude.{◌≡◌, ◌≤◌, pos, true, length, replicate, Err, IfErr, IfNone, IfOk, IfSome};
+ghost use Rattle.std.specs.Borrow.{sem};
+ghost use Rattle.std.specs.Io.BufRead.{Rests};
 ghost use Rattle.std.specs.Option.{ForSome};
 ghost use Rattle.krb_base.specs.Bytes.{AreZero};
 ghost use Rattle.krb_base.specs.Limits.{frame_limit};
@@ -61,6 +63,8 @@ impl Drop for Opener {
 }
 
 impl Opener {
+    ghost use Rattle.krb_seal.specs.contracts.opener.Opener.{the_row};
+
     /// Takes the session key.
     pub fn new(key: SessionKey, expect: Expect) -> Opener
         ensures { result ≡ opener_of (number_of key.etype) key.bytes expect }
@@ -148,11 +152,12 @@ impl Opener {
         Opening::new(self.etype, &self.keys, &self.expect).covered(alloc, frame)
     }
 
-    /// Makes the key of its frames' codes ready for eight at a time. What opens one at a time doesn't
-    /// need it. Answers whether it is there: a wiped opener, whose key is zeros, has none.
-    pub fn prepare_batch(&mut self) -> bool
-        ensures there { IsFalse result → AreZero self.old.key }
-        ensures same { self.new ≡ self.old }
+    /// Makes the key of its frames' codes ready for eight at a time, and gives it. What opens one at a time
+    /// doesn't need it. A wiped opener, whose key is zeros, has none.
+    pub fn prepare_batch(&mut self) -> Option<&BatchMac>
+        ensures key { IfSome result (λ mac. HoldsBatchKey mac.now (code_key_of self.old)) }
+        ensures none { IfNone result (AreZero self.old.key) }
+        ensures* same { sem 𝓛 (Rests the_row self.entry (λ new. new ≡ self.old)) }
     {
         self.keys.prepare_batch()
     }

@@ -1,6 +1,8 @@
 //! A sealer whose frames fit.
 
-ghost use Rattle.std.specs.Prelude.{◌≡◌, ◌≤◌, ◌+◌, ◌↔◌, true, drop, length, take, IfErr, IfOk, OnOk, OnErr, IsTrue, false};
+ghost use Rattle.std.specs.Prelude.{◌≡◌, ◌≤◌, ◌+◌, ◌↔◌, true, drop, length, take, IfErr, IfOk, IfSome, IsSome, OnOk, OnErr, false};
+ghost use Rattle.std.specs.Borrow.{sem};
+ghost use Rattle.std.specs.Io.BufRead.{Rests};
 ghost use Rattle.krb_structs.specs.Fault.{answer_of, fault_code};
 ghost use Rattle.krb_structs.specs.Moment.{micros_of};
 ghost use Rattle.krb_structs.specs.Reasons.{ModeAnswer, NewAnswer, RecordAnswer, SealAnswer, SizeAnswer};
@@ -9,6 +11,9 @@ ghost use Rattle.krb_structs.specs.Sealing.{CanPut, IsReady, SizesNext};
 ghost use Rattle.krb_structs.specs.Session.{IsSession, mode_of, session_of};
 ghost use Rattle.krb_seal.specs.Sealer.{SealsNext, advanced, end_of_numbers, in_mode, new_state, wiped_state};
 ghost use Rattle.krb_seal.specs.Lent.{advanced_by};
+ghost use Rattle.krb_seal.specs.Mode.{purpose_of};
+ghost use Rattle.krb_etype.specs.CodeKey.{code_key};
+ghost use Rattle.krb_keys.specs.BatchMac.{HoldsBatchKey};
 
 use crate::buffer::put_front;
 use crate::fault::Fault;
@@ -18,6 +23,7 @@ use crate::session::{KrbSession, mode, session, session_key};
 use crate::wipe::Wipe;
 use krb_base::{LAST_NUMBER, USER_DATA_LIMIT};
 use krb_der::Moment;
+use krb_keys::BatchMac;
 use krb_seal::{Refusal, Sealer, SessionSealer};
 use std::alloc::{AllocError, Global};
 use std::marker::Model;
@@ -41,6 +47,8 @@ impl Model for AnySealer {
 }
 
 impl AnySealer {
+    ghost use Rattle.krb_structs.specs.contracts.any_sealer.AnySealer.{the_row};
+
     /// A sealer.
     pub(crate) fn of(
         alloc: Global,
@@ -77,10 +85,12 @@ impl AnySealer {
         }
     }
 
-    /// Makes the key of its codes ready for eight messages at a time, as `AesSealer::prepare_batch` does, and answers as it.
-    pub fn prepare_batch(&mut self) -> bool
-        ensures there { IsTrue result ↔ self.old.wiped ≡ false }
-        ensures same { self.new ≡ self.old }
+    /// Makes the key of its codes ready for eight messages at a time, and gives it, as `AesSealer::prepare_batch` does.
+    pub fn prepare_batch(&mut self) -> Option<&BatchMac>
+        ensures there { IsSome result ↔ self.old.wiped ≡ false }
+        ensures key { IfSome result (λ mac.
+            HoldsBatchKey mac.now (code_key (purpose_of self.old.session.mode) self.old.key)) }
+        ensures* same { sem 𝓛 (Rests the_row self.entry (λ new. new ≡ self.old)) }
     {
         self.sealer.prepare_batch()
     }

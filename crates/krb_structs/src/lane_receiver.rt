@@ -1,12 +1,15 @@
 //! What takes the frames of one sender, one number after another.
 
-ghost use Rattle.std.specs.Prelude.{◌≡◌, ◌≤◌, length, drop, take, Err, IfErr, IfOk, OnErr, OnOk, Some, IsFalse};
+ghost use Rattle.std.specs.Prelude.{◌≡◌, ◌≤◌, length, drop, take, Err, IfErr, IfOk, IfNone, IfSome, OnErr, OnOk, Some};
+ghost use Rattle.std.specs.Borrow.{sem};
+ghost use Rattle.std.specs.Io.BufRead.{Rests};
 ghost use Rattle.std.specs.Option.{ForSome};
 ghost use Rattle.krb_base.specs.Bytes.{AreZero};
 ghost use Rattle.krb_base.specs.Limits.{last_number};
 ghost use Rattle.krb_peers.specs.Receiver.{IsJudgement, OpensRecord, TakesMemory};
 ghost use Rattle.krb_seal.specs.declared.refusal.Refusal.TheVariants.{BadOrder};
-ghost use Rattle.krb_seal.specs.Covered.{IsCodedFrame};
+ghost use Rattle.krb_keys.specs.BatchMac.{HoldsBatchKey};
+ghost use Rattle.krb_seal.specs.Covered.{IsCodedFrame, code_key_of};
 ghost use Rattle.krb_seal.specs.Opens.{opener_of};
 ghost use Rattle.krb_structs.specs.declared.fault.Fault.TheVariants.{Refused};
 ghost use Rattle.krb_structs.specs.Fault.{answer_of, fault_code};
@@ -24,6 +27,7 @@ use crate::session::{KrbExpect, expectation, session_key};
 use crate::wipe::Wipe;
 use krb_base::LAST_NUMBER;
 use krb_der::Moment;
+use krb_keys::BatchMac;
 use krb_peers::{Opened, Receiver};
 use krb_seal::{Coded, Opener, Refusal};
 use std::alloc::Global;
@@ -44,6 +48,8 @@ impl Model for LaneReceiver {
 }
 
 impl LaneReceiver {
+    ghost use Rattle.krb_structs.specs.contracts.lane_receiver.LaneReceiver.{the_row};
+
     /// A receiver on the heap, which demands this number next, or nothing after a close.
     pub fn new(
         alloc: Global,
@@ -95,10 +101,11 @@ impl LaneReceiver {
         self.receiver.opener()
     }
 
-    /// Makes the key of its frames' codes ready for eight at a time, as [`Opener::prepare_batch`] does, and answers as it.
-    pub fn prepare_batch(&mut self) -> bool
-        ensures there { IsFalse result → AreZero self.old.opener.key }
-        ensures same { self.new ≡ self.old }
+    /// Makes the key of its frames' codes ready for eight at a time, and gives it, as [`Opener::prepare_batch`] does.
+    pub fn prepare_batch(&mut self) -> Option<&BatchMac>
+        ensures key { IfSome result (λ mac. HoldsBatchKey mac.now (code_key_of self.old.opener)) }
+        ensures none { IfNone result (AreZero self.old.opener.key) }
+        ensures* same { sem 𝓛 (Rests the_row self.entry (λ new. new ≡ self.old)) }
     {
         self.receiver.prepare_batch()
     }

@@ -1,6 +1,11 @@
 //! One end of a session of plain user data, in both directions.
 
-ghost use Rattle.std.specs.Prelude.{◌≡◌, ◌≤◌, ◌↔◌, ◌+◌, true, drop, length, take, IfErr, IfOk, IsTrue, OnErr, OnOk, None, Some, false};
+ghost use Rattle.std.specs.Prelude.{◌≡◌, ◌≤◌, ◌↔◌, ◌+◌, true, drop, length, take, IfErr, IfOk, IfSome, IsSome, IsTrue, OnErr, OnOk, None, Some, false};
+ghost use Rattle.std.specs.Borrow.{sem};
+ghost use Rattle.std.specs.Io.BufRead.{Rests};
+ghost use Rattle.krb_etype.specs.CodeKey.{code_key};
+ghost use Rattle.krb_keys.specs.BatchMac.{HoldsBatchKey};
+ghost use Rattle.krb_seal.specs.Mode.{purpose_of};
 ghost use Rattle.krb_seal.specs.Sealer.{SealsNext, end_of_numbers, wiped_state};
 ghost use Rattle.krb_structs.specs.Fault.{IsDone, Needs, answer_of};
 ghost use Rattle.krb_structs.specs.Moment.{micros_of};
@@ -21,6 +26,7 @@ use crate::session::{KrbExpect, KrbSession};
 use crate::wipe::Wipe;
 use crate::wipeable_opener::WipeableOpener;
 use krb_base::LAST_NUMBER;
+use krb_keys::BatchMac;
 use krb_seal::Refusal;
 use std::alloc::Global;
 use std::marker::Model;
@@ -90,6 +96,8 @@ fn numbers_of(
 }
 
 impl Peer {
+    ghost use Rattle.krb_structs.specs.contracts.peer.Peer.{the_row};
+
     /// A peer on the heap, which writes what the session says, and demands this of the other end's
     /// messages, first of all the demand's number.
     pub fn new(
@@ -183,10 +191,12 @@ impl Peer {
         self.sealer.seal(alloc, user, at, confounder, out)
     }
 
-    /// Makes the key of its own codes ready for eight messages at a time. Answers whether it is there: a wiped peer has none.
-    pub fn prepare_batch(&mut self) -> bool
-        ensures there { IsTrue result ↔ self.old.sealer.wiped ≡ false }
-        ensures same { self.new ≡ self.old }
+    /// Makes the key of its own codes ready for eight messages at a time, and gives it. A wiped peer has none.
+    pub fn prepare_batch(&mut self) -> Option<&BatchMac>
+        ensures there { IsSome result ↔ self.old.sealer.wiped ≡ false }
+        ensures key { IfSome result (λ mac.
+            HoldsBatchKey mac.now (code_key (purpose_of self.old.sealer.session.mode) self.old.sealer.key)) }
+        ensures* same { sem 𝓛 (Rests the_row self.entry (λ new. new ≡ self.old)) }
     {
         self.sealer.prepare_batch()
     }
