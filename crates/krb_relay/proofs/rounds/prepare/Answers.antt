@@ -11,5 +11,5 @@ loop-lane-init c = refl
 pub loop-lane-preserved : goal.loop-lane-preserved
 loop-lane-preserved c =
     let r : Receiving = get_or c.loop-lane.receivings c.loop-lane.lane c.index-receivings-lane.result in
-    ap (λ (z : ReceiverState). let y : Receiving = record r { receiver = z } in set c.loop-lane.receivings c.loop-lane.lane y) c.prepare_batch.ensures.same
+    ap (λ (z : ReceiverState). let y : Receiving = record r { receiver = z } in set c.loop-lane.receivings c.loop-lane.lane y) c.prepare_batch.follows.holds-at-none
     ∙ (set-get_or c.loop-lane.receivings c.loop-lane.lane c.index-receivings-lane.result ∙ c.loop-lane.invariant)
