@@ -247,7 +247,7 @@ impl Keys {
         ensures there { IsSome result ↔ self.old.wiped ≡ false }
         ensures key { IfSome result (λ mac.
             HoldsBatchKey mac.now (code_key self.old.purpose self.old.key)) }
-        ensures zeros { IfNone result (AreZero self.old.key) }
+        ensures none { IfNone result (AreZero self.old.key) }
         ensures* same { sem 𝓛 (Rests the_row self.entry (λ new. new ≡ self.old)) }
     {
         if self.wiped {

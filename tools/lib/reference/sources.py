@@ -320,7 +320,7 @@ def pieces(text: str, indent: int, first: int = 1) -> Iterator[Piece]:
 HEAD = re.compile(r'\s*(pub(?:\([^)]*\))?\s+)?(?:unsafe\s+|extern "C"\s+|const\s+(?=fn))*'
                   r"(fn|struct|enum|trait|impl|const|static|type|use|mod|ghost use|ghost)\b"
                   r"\s*(\w*)")
-CLAUSE = re.compile(r"(requires|ensures)\s+(\w*)\s*(?=\{)")
+CLAUSE = re.compile(r"(requires|ensures)\*?\s+(\w*)\s*(?=\{)")
 GHOST = re.compile(r"^\s*(?:pub\s+)?ghost (\w+)\s*[:=]\s*(?=\{)", re.M)
 
 
