@@ -6,10 +6,8 @@ whose line has a key of the way back, and eve, whose line has none, have texts i
 sealed, and waiting, with the close. A text of kim took effect, and its sender hasn't heard that. ann is closed, max has
 a text that waits and was never sealed from, and sue had no line.
 
-The file stream has rows of a stream more (2026-12-01), whose session began by a ticket, with the keytabs under whose keys its
-key is wrapped: the outbox's and the carrier's are of that sender, with texts that took effect, are published, and wait. The
-store's are of a later receiver, without the columns that there weren't, since that receiver's library can't be built any
-more. No KDC is left."""
+The file stream has rows of a stream more (2026-12-01, by the programs of the same commits), whose session began by a ticket,
+with the keytabs under whose keys its key is wrapped: texts took effect, are published, and wait. No KDC is left."""
 import contextlib
 import os
 import sqlite3
@@ -45,7 +43,7 @@ class Old(Ends):
                 file.executescript(dump.read())
         stream = f"{HERE}/old/{version}/stream"
         told = subprocess.run([f"{programs}/sender", "--help"], check=True, capture_output=True, text=True).stdout
-        self.has_stream = os.path.exists(stream) and "--keytab" in told
+        self.has_stream = "--keytab" in told
         if self.has_stream:
             self.add_stream(stream)
 
