@@ -17,7 +17,7 @@ import tempfile
 
 from lib import options, report
 from lib.build import building
-from lib.plants import planted as edits
+from lib.faults import planted as edits
 from vectors import build, judging, readers
 from vectors.model import Case, Group
 

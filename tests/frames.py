@@ -1,6 +1,6 @@
 #!/usr/bin/env python3
 """Prints the frames of an independent sealer that the tests of the crates expect, or of a session
-key the strings for tests/residue: the key, its digits as a job file has them, and the derived keys.
+key the strings for tests/freed_memory: the key, its digits as a job file has them, and the derived keys.
 
     tests/frames.py [--keys KEYHEX]
     tests/frames.py --many      the SHA-1 of 21 frames that are sealed in one call, by mode and key

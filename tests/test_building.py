@@ -22,12 +22,12 @@ GB = 1 << 30
 # What the last line says of a program that isn't proved.
 LAST_LINE = "some 500 times slower than the proved one: tools/krbrelay --prove makes that one."
 # The commands that test or time the program, which all want a proved one.
-NEED_PROVED = ("tests/redelivery", "tests/fuzz 8", "tests/residue --program",
-               "tests/sweep program", "kerberos/interop", "bench 1")
+NEED_PROVED = ("tests/repeated_frames", "tests/fuzz 8", "tests/freed_memory --program",
+               "tests/failing_calls program", "kerberos/interop", "bench 1")
 # Those that take the other one by a word, and how they say it.
-QUICK_FORMS = ("tests/redelivery --quick", "tests/fuzz --quick 8")
+QUICK_FORMS = ("tests/repeated_frames --quick", "tests/fuzz --quick 8")
 WITHOUT = "over a program that was built without its proofs"
-TAKE_A_NAME = ("tests/residue --program", "tests/job_costs --check")
+TAKE_A_NAME = ("tests/freed_memory --program", "tests/job_costs --check")
 
 
 @pytest.fixture
@@ -316,9 +316,9 @@ def test_the_one_without_proofs_is_taken_by_its_word(proved):
 def test_of_a_named_file_the_bytes_count(proved):
     kept, other = proved.path("out", "unproved", "krbrelay"), proved.path("other")
     ours = proved.path("crates", "krbrelay", "out", "krbrelay")
-    assert proved.run(f"tests/residue --program {kept}")[3] == [], "one that isn't proved is refused still"
+    assert proved.run(f"tests/freed_memory --program {kept}")[3] == [], "one that isn't proved is refused still"
     shutil.copy(ours, other)
-    assert "proved seal" in proved.run(f"tests/residue --program {other}")[3], "a copy of the proved one is taken"
+    assert "proved seal" in proved.run(f"tests/freed_memory --program {other}")[3], "a copy of the proved one is taken"
     try:
         shutil.copy(kept, ours)
         assert proved.run("relay")[1] == "unproved\n", "nor is it taken in the place of the proved one"
@@ -340,7 +340,7 @@ def test_the_program_of_the_level_is_built_beside_the_plain_one(proved):
     assert proved.run("krbrelay --prove", **WITH_LEVEL) == (0, "", "", []), "it is built once"
     assert proved.run("relay", **WITH_LEVEL) == (0, "levelled\n", "", ["levelled relay"])
     assert proved.run("relay")[1] == "proved\n", "a machine without the level runs the plain one"
-    assert "proved seal" in proved.run("tests/residue --program", **WITH_LEVEL)[3], "and so do tests"
+    assert "proved seal" in proved.run("tests/freed_memory --program", **WITH_LEVEL)[3], "and so do tests"
 
 
 @needs_level
@@ -533,10 +533,10 @@ def test_goals_of_mutants(copy):
         copy.append(EDIT, *folder, f"{name}.edit")
     copy.append(LISTED, "crates", "krb_base", "mutants.toml")
     copy.append(TRIED, "tried")
-    out = copy.run("wrong_bodies")[1].splitlines()
+    out = copy.run("mutants")[1].splitlines()
     assert ({"krb_base/cut: it has no goal", "krb_base/whole: it has no goal",
              "krb_base/gone: it changes no file"} <= set(out)), "each goal has a mutant, and each mutant a goal"
-    status, out, _, _ = copy.run(f"wrong_bodies --tried {copy.path('tried')}")
+    status, out, _, _ = copy.run(f"mutants --tried {copy.path('tried')}")
     assert (status == 1 and "krb_base/said: refused at returns-clause-b, and not at returns-clause-a" in out
             and out.endswith("2 passed, 1 failed\n")), "another goal than the table's is a failure"
 
@@ -557,7 +557,7 @@ def test_reports():
     edits = (("src/lib.rt", "a", "b"), ("specs/A.antt", "c", ""))
     made = tables.edit_of(tables.Mutant("krb_a", "one", None, edits, False))
     assert made == "file: src/lib.rt\nold: a\nnew: b\nfile: specs/A.antt\nold: c\nnew: \n", "an edit for `rt`"
-    tool = scripts.load("wrong_bodies")
+    tool = scripts.load("mutants")
     mutant = tables.Mutant("krb_a", "one", "returns-clause-a", edits, False)
     assert (tool.is_refused(mutant, ("returns-clause-a", True)) and not tool.is_refused(mutant, ("", False))
             and not tool.is_refused(mutant, None) and not tool.is_refused(mutant, ("returns-clause-b", True))
@@ -645,7 +645,7 @@ def tried(copy, crate, says, changes=""):
     """Tries a crate's mutants, while a file changes if one is named. Returns whether all are told as
     refused, and how many checks there were."""
     copy.append(says, "says")
-    status, _, _, notes = copy.run(f"wrong_bodies --try {crate}", SAYS=copy.path("says"),
+    status, _, _, notes = copy.run(f"mutants --try {crate}", SAYS=copy.path("says"),
                                    CHANGES=changes)
     os.remove(copy.path("says"))
     return status == 0, notes.count(f"check {crate}")
@@ -657,7 +657,7 @@ def are_refused(copy, crate, says, changes=""):
 
 def untried(copy):
     """The crates whose mutants have to be tried."""
-    return [line.split(":")[0] for line in copy.run("wrong_bodies")[1].splitlines()
+    return [line.split(":")[0] for line in copy.run("mutants")[1].splitlines()
             if ": not all tried" in line]
 
 

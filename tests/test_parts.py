@@ -38,7 +38,7 @@ AFTER = parts.PARTS                        # what comes after the gate
 COUNT = 2 + len(AFTER)
 AT_ONCE = min(3, proving.cores() + 1)
 QUICK_AT_ONCE = min(4, proving.cores() + 1)
-BEFORE = ["begin wrong_bodies", "end wrong_bodies", "begin ci", "end ci"]
+BEFORE = ["begin mutants", "end mutants", "begin ci", "end ci"]
 # Those that begin first where several run at once: the others wait longest for the C library, and
 # these two have the longest limits beside it.
 FIRST_OF_ALL = [next(part for part in AFTER if part.command == name) for name in
@@ -291,12 +291,12 @@ def test_what_may_run_beside_the_gate():
 
 def test_a_part_that_takes_too_long(runs):
     """It ends, with all that it started."""
-    back = runs.given(("tools", "lib", "parts.py"), 'Part("tools/quotes", 10, over', 'Part("tools/quotes", 0.02, over')
+    back = runs.given(("tools", "lib", "parts.py"), 'Part("tools/check_documents", 10, over', 'Part("tools/check_documents", 0.02, over')
     try:
         status, out, _, notes = runs.run(HANGS="quotes")
     finally:
         back()
-    assert status == 1 and "tools/quotes: FAILED: it hadn't ended after 0 minutes" in out
+    assert status == 1 and "tools/check_documents: FAILED: it hadn't ended after 0 minutes" in out
     assert out.endswith(f"{COUNT - 1} passed, 1 failed\n") and len(started(notes)) == 1 and not are_left(notes)
 
 
@@ -327,7 +327,7 @@ def test_a_signal_ends_all(runs, number, hanging):
 
 def test_without_proofs_the_program_is_built_unless_it_is(runs):
     status, out, _, notes = runs.run("--without-proofs")
-    assert status == 0 and begun(notes)[:2] == ["wrong_bodies", "krbrelay --prove"] and len(begun(notes)) == COUNT
+    assert status == 0 and begun(notes)[:2] == ["mutants", "krbrelay --prove"] and len(begun(notes)) == COUNT
     assert out.endswith(f"{COUNT} passed, 0 failed\n")
 
 

@@ -14,7 +14,7 @@ import pytest
 
 from lib import parts, report, scripts, typed
 from lib.build import assembly, building, c_tools, without_proofs
-from lib.plants import checks, planted, wrapped
+from lib.faults import checks, planted, wrapped
 from signatures import plants as signature_plants
 from signatures.given import Given
 from vectors import held, judging, model, readers
@@ -24,7 +24,7 @@ from vectors.judging import Class
 OWN_CONTROLS = {
     "c/signatures": "faults in the header, the sources and the map (c/tests/signatures/plants.py)",
     "c/costs": "costs that are higher, lower or of no case (tools/lib/cost_table.py)",
-    "tests/residue": "strings and a key in freed blocks and in what realloc leaves (tests/preloaded/left.c)",
+    "tests/freed_memory": "strings and a key in freed blocks and in what realloc leaves (tests/preloaded/left.c)",
     "tests/secret_places": "an address and a branch by a secret (tests/secrets/src/control.rattle)",
 }
 LINES = ["lane 0 text 61", "lane 1 text 62", "lane 0 closed", "lane 1 closed"]
@@ -139,21 +139,21 @@ def test_another_object_is_refused(tmp_path, changed):
 
 # ---- what is searched in freed blocks
 
-LEFT = {**scripts.load("tests/residue").LEFT, "what is in no block": b"left in no block at all"}
+LEFT = {**scripts.load("tests/freed_memory").LEFT, "what is in no block": b"left in no block at all"}
 
 
 @pytest.mark.parametrize("what", LEFT)
-def test_residue_ends_with_1_where_a_string_is_left(tmp_path, what):
+def test_freed_memory_ends_with_1_where_a_string_is_left(tmp_path, what):
     left = c_tools.program(str(tmp_path), "tests", "preloaded", "left.c")
-    found = status(f"{building.TOP}/tests/residue", f"planted={LEFT[what].hex()}", left)
+    found = status(f"{building.TOP}/tests/freed_memory", f"planted={LEFT[what].hex()}", left)
     assert found == (0 if what == "what is in no block" else 1)
 
 
-# ---- the sweep
+# ---- failing calls
 
 @pytest.fixture(scope="module")
 def sweep():
-    return scripts.load("tests/sweep")
+    return scripts.load("tests/failing_calls")
 
 
 def text_of(lines):
@@ -163,7 +163,7 @@ def text_of(lines):
 @pytest.mark.parametrize("command, lines", [
     ("show", []), ("show", LINES[:2]), ("relay", []), ("relay", LINES[:1]), ("relay", [LINES[1]]),
     ("relay", [LINES[1], LINES[0], LINES[3]])])
-def test_sweep_takes_a_prefix_before_a_fault(sweep, command, lines):
+def test_failing_calls_takes_a_prefix_before_a_fault(sweep, command, lines):
     assert sweep.is_right(command, 4, text_of(lines), sweep.NO_MEMORY, LINES)
 
 
@@ -177,7 +177,7 @@ def test_sweep_takes_a_prefix_before_a_fault(sweep, command, lines):
     ("show", 4, "", "krbrelay: thread fault\n"), ("show", 4, "", ""), ("show", 3, "", "krbrelay: out of memory\n"),
     ("show", 0, text_of(LINES[:3]), ""), ("show", 0, text_of(LINES), "krbrelay: out of memory\n"),
     ("show", None, "", "it hung")])
-def test_sweep_reports_what_may_not_come(sweep, command, ended, output, fault):
+def test_failing_calls_reports_what_may_not_come(sweep, command, ended, output, fault):
     assert not sweep.is_right(command, ended, output, fault, LINES)
 
 
@@ -266,7 +266,7 @@ def test_a_new_key_of_a_job_is_written(monkeypatch):
         assert "scratch" in TABLES.with_part(building.text_of(path), "job_keys", name, lines()).lower(), path
 
 
-QUOTES = scripts.load("quotes")
+QUOTES = scripts.load("check_documents")
 QUOTED = "c/examples/two_ends.c"
 
 
@@ -285,7 +285,7 @@ def test_a_block_of_no_file_is_told():
 
 
 @pytest.mark.parametrize("line, faults", [
-    ("`tools/quotes --typed`", 0), ("`tools/quotes --planted`", 1), ("`tools/planted`", 1),
+    ("`tools/check_documents --typed`", 0), ("`tools/check_documents --planted`", 1), ("`tools/planted`", 1),
     ("`c/library --core` and `c/library --planted --planned`", 2)])
 def test_a_command_that_is_not_there_is_told(line, faults, monkeypatch):
     monkeypatch.setattr(QUOTES, "lines_of", lambda _: [line])
@@ -393,7 +393,7 @@ def test_a_tool_with_a_control_of_its_own_is_a_part(name):
     assert os.path.exists(os.path.join(building.TOP, scripts.path_of(name)))
 
 
-# ---- the faults that tools/plants plants
+# ---- the faults that tools/faults plants
 
 PLANTS = planted.all_plants()
 
@@ -456,7 +456,7 @@ def test_a_tool_that_ended_before_its_count_saw_nothing(said):
 @pytest.mark.parametrize("passed, said, is_seen", [
     (False, "not so: this fault", True), (False, "not so: another one", False), (True, "this fault", False)])
 def test_a_plant_is_seen_by_what_tells_it(monkeypatch, passed, said, is_seen):
-    tool = scripts.load("plants")
+    tool = scripts.load("faults")
     monkeypatch.setattr(tool, "Copy", lambda *_: None)
     monkeypatch.setattr(tool.checks, "run", lambda *_: (passed, said))
     plant = planted.Plant("planted", "none", ("c matrix",), (), says="this fault")

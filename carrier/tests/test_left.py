@@ -28,9 +28,9 @@ class Watched:
     """Both programs over SQLite in a folder, each block of which is looked at when it is freed."""
 
     def __init__(self, programs, folder):
-        residue = scripts.load("tests/residue")
+        freed_memory = scripts.load("tests/freed_memory")
         self.programs, self.folder = programs, str(folder)
-        self.watch, self.strings = residue.Watch(self.folder), residue.strings_of(KEYS)
+        self.watch, self.strings = freed_memory.Watch(self.folder), freed_memory.strings_of(KEYS)
 
     def file(self, text=LINE):
         write_private(f"{self.folder}/sessions", text)

@@ -1,4 +1,4 @@
-"""Makes, uses and ends each handle of the Python package under a key of 16 and one of 32 bytes, for tests/residue.
+"""Makes, uses and ends each handle of the Python package under a key of 16 and one of 32 bytes, for tests/freed_memory.
 The caller's own key is cleared at the end: what else has it is the package's or the library's.
 
     handles.py FIRST [left]     the keys begin with this byte; with the word, a copy of each is left

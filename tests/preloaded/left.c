@@ -1,4 +1,4 @@
-/* Leaves strings in blocks that it frees, and others in blocks that realloc leaves, for tests/residue to find:
+/* Leaves strings in blocks that it frees, and others in blocks that realloc leaves, for tests/freed_memory to find:
  * within a block, in a small one that has nothing else, at the begin and at the end of a large one, as text
  * and as the bytes of a key. */
 #include <stdlib.h>

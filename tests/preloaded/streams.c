@@ -1,6 +1,6 @@
 /* Preloaded: each read of standard input gives at most SWEEP_SIZE bytes, or each write to standard
  * output takes at most so many; SWEEP_STREAM is 0 or 1. From the call on whose number SWEEP_REFUSE
- * gives, counted from 1, each fails, or a write takes nothing where SWEEP_NOTHING is set. That call
+ * gives, counted from 1, each fails, or a write takes nothing where TAKE_NOTHING is set. That call
  * makes the file that SWEEP_REPORT names. */
 #define _GNU_SOURCE
 #include <errno.h>
@@ -24,7 +24,7 @@ __attribute__((constructor)) static void begin(void)
     refused = strtoul(number, NULL, 10);
     most = strtoul(size, NULL, 10);
     stream = which[0] == '1';
-    takes_nothing = getenv("SWEEP_NOTHING") != NULL;
+    takes_nothing = getenv("TAKE_NOTHING") != NULL;
 }
 
 static int is_refused(void)

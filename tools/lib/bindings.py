@@ -131,12 +131,12 @@ def conformance(count, reader, prefix):
     count.add(passed, failed)
 
 
-def no_residue(count, program, key, env):
+def no_keys_left(count, program, key, env):
     """No block that a program frees has a session key or a key derived from it."""
     tests = os.path.join(building.TOP, "tests")
     strings = subprocess.run([os.path.join(tests, "frames.py"), "--keys", key.hex()], check=True,
                              stdout=subprocess.PIPE, text=True).stdout.strip()
-    done = subprocess.run([os.path.join(tests, "residue"), strings, program], check=False, text=True,
+    done = subprocess.run([os.path.join(tests, "freed_memory"), strings, program], check=False, text=True,
                           env={**os.environ, **env}, stdout=subprocess.PIPE, stderr=subprocess.STDOUT)
     count.told(done.returncode == 0, "no block that the example frees has its key",
                done.stdout.splitlines())

@@ -107,7 +107,7 @@ class Part:
         return [need for need in self.needs if not IS_THERE[need]()]
 
 
-FIRST = Part("tools/wrong_bodies", 10, ("rt",))
+FIRST = Part("tools/mutants", 10, ("rt",))
 GATE = Part("rt ci", 174, ("rt",))
 BUILD = Part("tools/krbrelay --prove", 60, ("rt",))
 # The first builds the C library, which those after it take then. It stands on what krb_c stands on:
@@ -121,7 +121,7 @@ PARTS = [
     Part("c/signatures", 10, ("rt", COMPILER, MAKE), LIBRARY.command, over=()),
     Part("c/costs", 10, (COMPILER, MAKE, "valgrind"), LIBRARY.command, over=()),
     Part("python/test", 20, (COMPILER, CRYPTOGRAPHY), LIBRARY.command, over=()),
-    Part("tools/quotes", 10, over=()),
+    Part("tools/check_documents", 10, over=()),
     Part("tools/reference --check", 10, over=()),
     Part("pytest tests/test_reference.py", 10, (PYTEST,), over=()),
     Part("pytest tests/test_tables.py", 10, (PYTEST,), over=()),
@@ -146,12 +146,12 @@ PARTS = [
     Part("pytest tests/test_program.py", 10, (PROGRAM, COMPILER, PYTEST)),
     Part("pytest tests/test_show.py", 10, (PROGRAM, COMPILER, CRYPTOGRAPHY, PYTEST), LIBRARY.command),
     Part("pytest tests/test_install.py", 10, (PROGRAM, PYTEST)),
-    Part("tests/sweep", 10, (PROGRAM, COMPILER, CRYPTOGRAPHY)),
+    Part("tests/failing_calls", 10, (PROGRAM, COMPILER, CRYPTOGRAPHY)),
     Part("tests/job_costs --check", 5, (PROGRAM,)),
-    Part("tests/residue --program", 5, (PROGRAM, COMPILER, CRYPTOGRAPHY)),
-    Part("tests/residue --relays", 10, ("rt", COMPILER, CRYPTOGRAPHY)),
-    Part("tests/residue --python", 10, (COMPILER, CRYPTOGRAPHY), LIBRARY.command, over=()),
-    Part("tests/redelivery", 5, (PROGRAM, CRYPTOGRAPHY)),
+    Part("tests/freed_memory --program", 5, (PROGRAM, COMPILER, CRYPTOGRAPHY)),
+    Part("tests/freed_memory --relays", 10, ("rt", COMPILER, CRYPTOGRAPHY)),
+    Part("tests/freed_memory --python", 10, (COMPILER, CRYPTOGRAPHY), LIBRARY.command, over=()),
+    Part("tests/repeated_frames", 5, (PROGRAM, CRYPTOGRAPHY)),
     Part("carrier/test --library", 30, ("rt", COMPILER, MAKE, SQLITE), LIBRARY.command, over=()),
     Part("carrier/test --files", 10, (PROGRAM, "rt", COMPILER, MAKE, SQLITE), LIBRARY.command),
     Part("tests/fuzz 2000", 5, (PROGRAM, CRYPTOGRAPHY)),
@@ -162,8 +162,8 @@ PARTS = [
          over=()),
 ]
 MORE = [
-    Part("tools/quotes --typed", 10, (PROGRAM, "rt", COMPILER, MAKE, PKG_CONFIG, SQLITE)),
-    Part("tools/wrong_bodies --try", 170, ("rt",)),
+    Part("tools/check_documents --typed", 10, (PROGRAM, "rt", COMPILER, MAKE, PKG_CONFIG, SQLITE)),
+    Part("tools/mutants --try", 170, ("rt",)),
     Part("tests/fuzz 20000 2", 60, (PROGRAM, CRYPTOGRAPHY)),
     Part("kerberos/interop", 20, (PROGRAM, COMPILER, MIT, HEIMDAL)),
     Part("conformance/test --all", 20, (PROGRAM, COMPILER, CRYPTOGRAPHY, MIT, HEIMDAL)),
@@ -193,7 +193,7 @@ def over_unproved(command, minutes, *needs):
 
 QUICK = [
     BUILD_UNPROVED,
-    Part("tools/quotes", 1),
+    Part("tools/check_documents", 1),
     Part("pytest tests/test_tables.py", 1, (PYTEST,)),
     Part("tools/tables --check", 1),
     Part("pytest carrier/tests/test_statements.py", 1, (PYTEST,)),
@@ -201,7 +201,7 @@ QUICK = [
     Part("conformance/test --quick", 3, (CRYPTOGRAPHY,)),
     # The longest first.
     over_unproved("tests/fuzz --quick 300", 5, CRYPTOGRAPHY),
-    over_unproved("tests/redelivery --quick", 4, CRYPTOGRAPHY),
+    over_unproved("tests/repeated_frames --quick", 4, CRYPTOGRAPHY),
     *(over_unproved(f"pytest --quick --share {it}/{SHARES} tests/test_program.py", 6, COMPILER, PYTEST)
       for it in range(1, SHARES + 1)),
     over_unproved("pytest --quick tests/test_install.py", 1, PYTEST),
@@ -214,7 +214,7 @@ QUICK = [
 VERBS = {
     "run": ("krbrelay", "relay", "show", "picture", "check_job"),
     "make": ("install", "c/library", "c/dist", "debian", "release", "reference", "figure"),
-    "prove": ("test", "proving.py", "wrong_bodies"),
+    "prove": ("test", "proving.py", "mutants"),
     "bench": ("bench", "bench_aes", "bench_lane", "tests/job_costs"),
 }
 OTHERS = "check"

@@ -1,6 +1,6 @@
 //! A receiver's answers and a log's entries, where each allocation in turn may fail: each answer is
 //! the known one, or out of memory with nothing changed, and then the same call with memory gives
-//! the known one. `tests/sweep` makes the allocations fail, and counts the lines that report it.
+//! the known one. `tests/failing_calls` makes the allocations fail, and counts the lines that report it.
 
 ghost use Rattle.std.specs.Prelude.{◌≡◌, IfOk};
 

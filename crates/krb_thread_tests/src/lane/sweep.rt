@@ -1,5 +1,5 @@
 //! Making a lane, where each allocation in turn may fail: there is a lane that works, or out of
-//! memory, and then a lane with memory. Its other calls allocate nothing. `tests/sweep` makes the
+//! memory, and then a lane with memory. Its other calls allocate nothing. `tests/failing_calls` makes the
 //! allocations fail, and counts the lines that report it.
 
 ghost use Rattle.std.specs.Prelude.{◌≡◌, []};

@@ -1,5 +1,5 @@
 //! A relay's turns, where each allocation in turn may fail: each turn does what is known, or is out
-//! of memory with nothing changed, and then the same turn with memory does it. `tests/sweep` makes the
+//! of memory with nothing changed, and then the same turn with memory does it. `tests/failing_calls` makes the
 //! allocations fail, and counts the lines that report it.
 
 ghost use Rattle.std.specs.Prelude.{◌≡◌, ◌<◌, length};

@@ -1,4 +1,4 @@
-//! Relays where each allocation in turn may fail. `tests/sweep` makes the allocations fail, and counts
+//! Relays where each allocation in turn may fail. `tests/failing_calls` makes the allocations fail, and counts
 //! the lines that report it.
 
 use super::long::{SIZE, assert_begins, assert_rounds, lanes_of};

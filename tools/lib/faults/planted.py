@@ -6,9 +6,9 @@ from collections.abc import Callable
 
 from lib.build import building
 
-TABLES = ("tests/plants.toml", "tests/wrapped_plants.toml", "tests/package_plants.toml",
-          "tests/carrier_plants.toml", "tests/tool_plants.toml", "tests/two_fault_plants.toml",
-          "tests/beside_plants.toml", "tests/class_plants.toml")
+TABLES = ("tests/faults.toml", "tests/wrapped_faults.toml", "tests/package_faults.toml",
+          "tests/carrier_faults.toml", "tests/tool_faults.toml", "tests/two_fault_faults.toml",
+          "tests/beside_faults.toml", "tests/class_faults.toml")
 
 
 class NoPlant(Exception):

@@ -1,12 +1,12 @@
 /* The block of a handle, once freed, has no eight bytes in a row of what it held while it was in
  * use. Handles end in either order, by free, after a wipe, and by a new key in their place. And user
  * data of KRB-PRIV go through each call, with answers before and after they are deciphered. Built
- * with -Wl,--wrap=free, and run by tests/residue, which looks for keys, user data and confounders in
+ * with -Wl,--wrap=free, and run by tests/freed_memory, which looks for keys, user data and confounders in
  * all blocks that are freed.
  *
- *   residue         ends handles in each way, and seals and opens
- *   residue left    frees a block with the key in it, and one with user data, which is to be
- *                   reported */
+ *   freed_memory         ends handles in each way, and seals and opens
+ *   freed_memory left    frees a block with the key in it, and one with user data, which is to be
+ *                        reported */
 #define _GNU_SOURCE
 #include "check.h"
 #include "krbrelay.h"
@@ -99,7 +99,7 @@ static void end_both(struct krbrelay_sealer *s, struct krbrelay_opener *o, enum 
     krbrelay_opener_free(o);
 }
 
-static void no_residue(uint32_t mode, int etype, enum ending how)
+static void no_keys_left(uint32_t mode, int etype, enum ending how)
 {
     static uint8_t frame[KRBRELAY_FRAME_LIMIT], text[KRBRELAY_FRAME_LIMIT];
     static const uint8_t zeros[16];
@@ -122,7 +122,7 @@ static void no_residue(uint32_t mode, int etype, enum ending how)
 }
 
 /* The same of a receiver, ended by free or by a new key in its place. */
-static void no_residue_of_receiver(uint32_t mode, int etype, int new_key)
+static void no_keys_left_of_receiver(uint32_t mode, int etype, int new_key)
 {
     static const uint8_t other[32] = { 9, 8, 7, 6, 5, 4, 3, 2, 1 };
     struct krbrelay_expect expect = expect_of(mode);
@@ -136,7 +136,7 @@ static void no_residue_of_receiver(uint32_t mode, int etype, int new_key)
 }
 
 /* The same of a peer, ended by free, by a new key, by a refused one, or by going on from an export. */
-static void no_residue_of_peer(uint32_t mode, int etype, enum ending how)
+static void no_keys_left_of_peer(uint32_t mode, int etype, enum ending how)
 {
     static const uint8_t none[KRBRELAY_PEER_STATE_SIZE];
     static const uint8_t other[32] = { 9, 8, 7, 6, 5, 4, 3, 2, 1 };
@@ -361,12 +361,12 @@ static void end_in_each_way(void)
     for (uint32_t mode = KRBRELAY_SAFE; mode <= KRBRELAY_PRIV; mode++)
         for (int etype = 17; etype <= 18; etype++) {
             for (unsigned how = 0; how < ENDINGS; how++)
-                no_residue(mode, etype, (enum ending)how);
-            no_residue_of_receiver(mode, etype, 0);
-            no_residue_of_receiver(mode, etype, 1);
-            no_residue_of_peer(mode, etype, FREE_SEALER_FIRST);
-            no_residue_of_peer(mode, etype, NEW_KEY);
-            no_residue_of_peer(mode, etype, REFUSED_NEW);
+                no_keys_left(mode, etype, (enum ending)how);
+            no_keys_left_of_receiver(mode, etype, 0);
+            no_keys_left_of_receiver(mode, etype, 1);
+            no_keys_left_of_peer(mode, etype, FREE_SEALER_FIRST);
+            no_keys_left_of_peer(mode, etype, NEW_KEY);
+            no_keys_left_of_peer(mode, etype, REFUSED_NEW);
         }
     for (int etype = 17; etype <= 18; etype++) {
         unseal_in_each_way(etype);
@@ -392,5 +392,5 @@ int main(int argc, char **argv)
         RUN(leave_key());
     else
         RUN(end_in_each_way());
-    return check_status("residue");
+    return check_status("freed_memory");
 }

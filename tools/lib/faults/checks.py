@@ -7,11 +7,11 @@ from collections.abc import Callable
 
 from lib import bindings
 from lib.build.without_proofs import NotCompiled
-from lib.plants.copies import Copy
+from lib.faults.copies import Copy
 
 Told = tuple[bool, str]
 WRAPS = ["-Wl,--wrap=malloc", "-Wl,--wrap=realloc", "-Wl,--wrap=free"]
-LINKED = {"calls": ["-Wl,--wrap=clock_gettime", "-Wl,--wrap=getrandom"], "residue": WRAPS[2:],
+LINKED = {"calls": ["-Wl,--wrap=clock_gettime", "-Wl,--wrap=getrandom"], "freed_memory": WRAPS[2:],
           "taking": WRAPS[:2]}
 OF_A_TEST = 60      # seconds, as `rt ci` gives each test of a crate
 OF_32_BITS = ["-m32", "-ffreestanding", "-nostdlib", "-static", "-fno-pic", "-no-pie", "-fno-stack-protector"]
@@ -25,7 +25,7 @@ def c_program(copy: Copy, name: str, *words: str) -> Told:
 
 
 def secrets_of(copy: Copy) -> list[str]:
-    return [f"{copy.top}/c/tests/{it}" for it in ("residue_strings", "round_keys")]
+    return [f"{copy.top}/c/tests/{it}" for it in ("key_strings", "round_keys")]
 
 
 def matrix(copy: Copy, most_told: int = 1) -> Told:
@@ -110,7 +110,7 @@ OF_C = {"matrix": matrix, "whole_matrix": whole_matrix, "inline": inline, "suppo
 # ---- the program
 
 OF_PROGRAM = {"tests": ["pytest", "-q", "-x", "tests/test_program.py"],
-              "sweep": ["tests/sweep", "program"], "residue": ["tests/residue", "--program"],
+              "failing_calls": ["tests/failing_calls", "program"], "freed_memory": ["tests/freed_memory", "--program"],
               "job_costs": ["tests/job_costs", "--check"], "costs": ["tests/program_costs", "--growth"]}
 
 
@@ -203,9 +203,9 @@ def crate(copy: Copy, name: str) -> Told:
     return listed and bool(names), said
 
 
-def sweep(copy: Copy, name: str) -> Told:
+def failing_calls(copy: Copy, name: str) -> Told:
     """The tests of a crate in which each allocation fails in turn."""
-    return copy.run(["tests/sweep", name], cwd=copy.top) if copy.tests(name) else (False, "no tests")
+    return copy.run(["tests/failing_calls", name], cwd=copy.top) if copy.tests(name) else (False, "no tests")
 
 
 def goals_of(said: str, crate: str, function: str) -> str:
@@ -236,8 +236,8 @@ def prover(copy: Copy, name: str, function: str) -> Told:
 
 CHECKS: dict[str, Callable[..., Told]] = {"c": c_test, "program": of_program, "carrier": carrier,
                                           "case": carrier_case, "pytest": carrier_pytest,
-                                          "package": package, "python": python, "tools": tool, "crate": crate, "sweep": sweep,
-                                          "prover": prover}
+                                          "package": package, "python": python, "tools": tool, "crate": crate,
+                                          "failing_calls": failing_calls, "prover": prover}
 
 
 def run(copy: Copy, check: str) -> Told:

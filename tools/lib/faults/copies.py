@@ -9,7 +9,7 @@ import tempfile
 import threading
 
 from lib.build import building, c_tools, family, without_proofs
-from lib.plants import planted, wrapped
+from lib.faults import planted, wrapped
 
 LIBRARY = without_proofs.LIBRARY
 FLAGS = ["-std=gnu11", "-O2", "-w"]
