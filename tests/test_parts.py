@@ -293,7 +293,7 @@ def test_a_part_that_takes_too_long(runs):
     """It ends, with all that it started."""
     back = runs.given(("tools", "lib", "parts.py"), 'Part("tools/check_documents", 10, over', 'Part("tools/check_documents", 0.02, over')
     try:
-        status, out, _, notes = runs.run(HANGS="quotes")
+        status, out, _, notes = runs.run(HANGS="check_documents")
     finally:
         back()
     assert status == 1 and "tools/check_documents: FAILED: it hadn't ended after 0 minutes" in out
