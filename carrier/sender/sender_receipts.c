@@ -92,6 +92,18 @@ static enum heard hear_receipt(struct sender *s, struct sending *it, const uint8
     return HEARD_STOPS;
 }
 
+/* The session after this one in its stream may take effect now: its pauses begin anew. They have grown, since what came
+ * before its turn was refused, and else each session of a chain would wait for a minute. */
+static void wake_next(struct sender *s, const struct sending *it)
+{
+    size_t i;
+    for (i = 0; i < s->all.count; i++) {
+        struct sending *next = s->all.at[i];
+        if (next->begun != NULL && next->stopped_at != 1 && strcmp(next->begun->opened.before, it->of.name) == 0)
+            (void)sender_load(s, next); /* else it goes on as it is */
+    }
+}
+
 void receipts_note(struct sender *s, struct sending *it, enum heard heard)
 {
     if (heard == HEARD_STOPS) {
@@ -101,6 +113,8 @@ void receipts_note(struct sender *s, struct sending *it, enum heard heard)
     if (heard == HEARD_DELIVERED) {
         s->receipts++;
         list_add(&s->dirty, it, &it->is_dirty);
+        if (it->stream != NULL && it->stream->now != it && it->end.done == it->end.progress.next)
+            wake_next(s, it);
     }
     turns_note(s, it);
 }

@@ -37,7 +37,9 @@ for (int i = 1; i < count; i++)
         s->frames[i - 1] = s->frames[i];
     count -= count > 1;
     s->fetched =""")),
-    "the session before is looked for once": ("tickets+keys", 19, "STANDS",
+    "a session waits on after the one before it is done": ("purged+killed+tickets+bursts+skewed", 9000156, "LATE",
+        ("sender_receipts.c", "it->end.done == it->end.progress.next)", "it->end.done > it->end.progress.next)")),
+    "the session before is looked for once": ("tickets+keys", 17, "STANDS",
         ("shard_load.c", "|| it->drafted.number == it->of.first ?", "?")),
     "a second session after one is stored": ("forked+tickets+keys", 1, "DOUBLED", ("shard_open.c", """\
 OPENING_FORKED;
