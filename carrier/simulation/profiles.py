@@ -106,6 +106,6 @@ MUTANTS = {
     "later texts are taken first": ("bursts+carrier", 14, "OVERTAKEN"),
     "receipts aren't sealed again": ("lost+killed", 1, "STANDS"),
     "a stream goes on without its key": ("keys+tickets", 2, "OVERTAKEN"),
-    "no session waits for the one before": ("cut+killed+slow+tickets", 63, "OVERTAKEN"),
+    "no session waits for the one before": ("cut+killed+slow+tickets", 7, "OVERTAKEN"),
     "each shard goes on with a session": ("copied+tickets", 1, "ELSEWHERE"),
 }
