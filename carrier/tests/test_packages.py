@@ -1,5 +1,5 @@
-"""What a package of the carrier has beside its programs says what they say: the completions their options, the rules
-and the dashboard of Prometheus their metrics, and the units how little they may do."""
+"""What a package of the carrier has beside its programs says what they say: the completions their options, the manual
+their events, the rules and the dashboard of Prometheus their metrics, and the units how little they may do."""
 import json
 import os
 import pathlib
@@ -15,8 +15,11 @@ import systemd_units
 
 HERE = os.path.dirname(os.path.abspath(__file__))
 SOURCES = os.path.dirname(HERE)
-OPTIONS = tomllib.loads(pathlib.Path(SOURCES, "../tables/options.toml").read_text(encoding="utf-8"))["option"]
 METRIC = re.compile(r"\bkrbrelay_(?:sender|receiver)_\w+")
+
+
+def table(name):
+    return tomllib.loads(pathlib.Path(SOURCES, f"../tables/{name}.toml").read_text(encoding="utf-8"))
 
 
 def text_of(name):
@@ -92,23 +95,21 @@ def test_completions_have_each_option(shell, name, tmp_path):
     given = {"PATH": f"{tmp_path}:{os.environ['PATH']}", "HOME": str(tmp_path)}
     words = [*(it.replace("{}", program.name) for it in words), os.path.join(SOURCES, "completions", file)]
     said = subprocess.run(words, check=True, stdout=subprocess.PIPE, text=True, env=given, cwd=tmp_path).stdout
-    assert set(said.split()) - {"--help"} == {f"--{it['word']}" for it in OPTIONS if name in it.get("of", [])}
+    assert set(said.split()) - {"--help"} == {f"--{it['word']}" for it in table("options")["option"] if name in it.get("of", [])}
 
 
 def metrics():
-    """The metrics that the programs have."""
-    found = set()
-    for source in ("sender_report.c", "shard_report.c"):
-        text = text_of(source)
-        begin = re.search(r'^#define NAME "(\w+)"', text, re.M)[1]
-        found |= {begin + it for it in [*re.findall(r'(?:\{ NAME |X\()"(\w+)"', text), "build_info"]}
-    return found
+    """The names that the programs, a rule or a question may have: those of tables/metrics.toml."""
+    for group, rows in table("metrics").items():
+        for program in ("sender", "receiver") if group == "both" else (group,):
+            yield from (f"krbrelay_{program}_{name}{part}" for name, row in rows.items()
+                        for part in (("", "_bucket", "_sum", "_count") if row["type"] == "histogram" else ("",)))
 
 
-@pytest.mark.parametrize("name", ["alerts.yml", "alerts_test.yml", "dashboard.json"])
+@pytest.mark.parametrize("name", ["monitoring/alerts.yml", "monitoring/alerts_test.yml", "monitoring/dashboard.json", "OPERATION.md"])
 def test_metrics_that_are_named_are_there(name):
-    named = set(METRIC.findall(text_of(f"monitoring/{name}")))
-    assert len(named) > 8 and named <= metrics(), named - metrics()
+    named = set(METRIC.findall(text_of(name)))
+    assert len(named) > 8 and named <= {*metrics()}, named - {*metrics()}
 
 
 def test_each_rule_is_tried():
