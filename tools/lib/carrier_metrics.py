@@ -1,4 +1,5 @@
-"""What tools/tables writes of tables/metrics.toml: the rows of the reports of the carrier's programs, and OPERATION.md's table."""
+"""What tools/tables writes of tables/metrics.toml: the rows of the reports of the carrier's programs, and a table of
+OPERATION.md."""
 import functools
 import tomllib
 from collections.abc import Iterator

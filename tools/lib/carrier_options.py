@@ -73,9 +73,9 @@ def head_of_status() -> Iterator[str]:
                              subsequent_indent=" " * COLUMN, break_on_hyphens=False)
     yield ""
     for row in options_of("status"):
-        begin = f"  --{row['word']} {row.get('value', '')}".rstrip()
-        yield from aligned(f"{begin:{COLUMN}}" if len(begin) < COLUMN - 1 else f"{begin}  ", help_of(row).splitlines()[:1], "")
-        yield from (" " * COLUMN + it for it in help_of(row).splitlines()[1:])
+        begin, (first, *others) = f"  --{row['word']} {row.get('value', '')}".rstrip(), help_of(row).splitlines()
+        yield f"{begin:{COLUMN - 2}}  {first}"
+        yield from (" " * COLUMN + it for it in others)
 
 
 # ---- the manual
@@ -103,7 +103,8 @@ def exit_status(program: str) -> list[str]:
 PLACES = {
     "synopsis": (".SH SYNOPSIS\n", ".SH DESCRIPTION"),
     "exit status": (".SH EXIT STATUS\n", ".SH DIAGNOSTICS"),
-    "how status is called": ('"""Shows how sessions stand, by what outboxes, stores and the carrier have.\n\n', "\nA line a session:"),
+    "how status is called": ('"""Shows how sessions stand, by what outboxes, stores and the carrier have.\n\n',
+                             "\nA line a session:"),
 }
 PYTHON = "python/krbrelay/carrier.py"
 PARTS = [

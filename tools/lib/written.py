@@ -26,7 +26,7 @@ def aligned(begin: str, lines: list[str], end: str) -> Iterator[str]:
 
 
 def packed(words: Iterable[str], begin: str) -> list[str]:
-    """Words with commas between them, as many in a line as go there. A line that isn't the first is indented two spaces more."""
+    """Words with commas between them, as many in a line as go there; each line but the first has two spaces more."""
     lines = [begin]
     for word in words:
         if len(lines[-1] + word) > WIDTH:
