@@ -525,6 +525,24 @@ def of_keys():
     yield f"{HELP}, open", f"and without {', '.join(without[:-1])} and {without[-1]}" in told, True
 
 
+def of_options():
+    """A number has a default within its bounds, which its help says, and a flag no value; no program has an option twice,
+    and a unit of systemd names options of its program."""
+    table = tomllib.loads(building.text_of("tables/options.toml"))
+    for row in table["option"]:
+        name, is_number = f"tables/options.toml, {row['word']}", row.get("kind") == "number"
+        yield f"{name}, value", "value" in row, row.get("kind") != "flag"
+        yield f"{name}, default in the help", "{default}" in row["help"], is_number
+        if is_number and isinstance(row["most"], int):
+            yield f"{name}, default", row["default"] in range(row.get("least", 0), row["most"] + 1), True
+    for program in table["program"]:
+        words = [row["word"] for row in table["option"] if program in row.get("at", row.get("of"))]
+        yield f"tables/options.toml, options of {program}", len(words), len(set(words))
+        if "ends" in table["program"][program]:
+            unit = building.text_of(f"carrier/systemd/krbrelay-{program}@.service").partition("\nExecStart=")[2]
+            yield f"the options of {program}'s unit", set(re.findall(r" --([a-z-]+)", unit)) <= set(words), True
+
+
 # ---- what a caller leaves out
 
 ENDS = {"Sealer": "sealer", "Opener": "opener", "Receiver": "receiver", "Peer": "peer", "Demand": "values"}
@@ -739,6 +757,11 @@ def test_first_lines(found, wanted):
 
 @compared(of_keys)
 def test_keys_of_a_job(found, wanted):
+    assert found == wanted
+
+
+@compared(of_options)
+def test_options_of_the_carrier(found, wanted):
     assert found == wanted
 
 

@@ -40,19 +40,31 @@ void options_refuse(const struct usage *usage)
 
 /* ---- A command line */
 
+static void put_number(const struct option_row *row, uint32_t number, void *options)
+{
+    memcpy((char *)options + row->at, &number, sizeof number);
+}
+
+/* What the numbers are where no word says so. */
+static void put_initial(const struct usage *usage, void *options)
+{
+    size_t i;
+    for (i = 0; i < usage->count; i++)
+        if (usage->rows[i].kind == OPTION_NUMBER)
+            put_number(&usage->rows[i], usage->rows[i].initial, options);
+}
+
 static void take(const char *program, const struct option_row *row, const char *word, void *options)
 {
     void *at = (char *)options + row->at;
     const char *text = row->kind == OPTION_FILE && *word == 0 ? NULL : word;
-    uint32_t number;
     switch (row->kind) {
     case OPTION_TEXT:
     case OPTION_FILE:
         memcpy(at, &text, sizeof text);
         break;
     case OPTION_NUMBER:
-        number = option_number(program, row->word, word, row->low, row->high);
-        memcpy(at, &number, sizeof number);
+        put_number(row, option_number(program, row->word, word, row->low, row->high), options);
         break;
     case OPTION_FLAG:
         *(int *)at = 1;
@@ -78,6 +90,7 @@ void options_read(const struct usage *usage, int count, char **words, void *opti
     struct option known[OPTIONS_MOST + 3] = { { NULL, 0, NULL, 0 } };
     int letter;
     list(usage, known);
+    put_initial(usage, options);
     while ((letter = getopt_long(count, words, "", known, NULL)) != -1)
         switch (letter) {
         case HELP: end_with_usage(usage, 0);

@@ -1,5 +1,5 @@
 /* The options of a program. Each is one row, from which follow the usage, what a command line may have, and where the
- * value goes. */
+ * value goes. tools/tables writes the rows, of tables/options.toml. */
 #ifndef OPTIONS_H
 #define OPTIONS_H
 
@@ -11,7 +11,7 @@ enum { OPTIONS_MOST = 32 }; /* rows of a program at most */
 enum option_kind {
     OPTION_TEXT,   /* a const char * */
     OPTION_FILE,   /* the same; NULL for an empty word, since units may have no file */
-    OPTION_NUMBER, /* a uint32_t from low to high */
+    OPTION_NUMBER, /* a uint32_t from low to high, and `initial` where the option isn't given */
     OPTION_FLAG,   /* an int, which is 1 then: it has no value */
     OPTION_TAKEN   /* what `take` makes of it */
 };
@@ -22,6 +22,7 @@ struct option_row {
     enum option_kind kind;
     size_t at;
     uint64_t low, high;
+    uint32_t initial;
     void (*take)(void *options, const char *word);
 };
 

@@ -159,6 +159,11 @@ void service_tell_end(void)
 /* ---- To the operator */
 
 #ifdef WITH_METRICS
+/* tables/metrics.toml: metrics, by tools/tables */
+#define BUILD_INFO "krbrelay_%s_build_info"
+#define BUILD_INFO_IS "gauge", "1, of a program of this version, over this version of libkrbrelay, that was built with these"
+/* end of metrics */
+
 static void print_head(FILE *page, const struct metric *it)
 {
     int is_histogram = strcmp(it->type, "histogram") == 0;
@@ -184,10 +189,8 @@ static void print_build(FILE *page)
         ;
     const uint32_t library = krbrelay_version();
     char name[64];
-    write_whole(name, sizeof name, "krbrelay_%s_build_info", service.program);
-    print_head(page, &(const struct metric){
-        name, "gauge", "1, of a program of this version, over this version of libkrbrelay, that was"
-        " built with these", NULL });
+    write_whole(name, sizeof name, BUILD_INFO, service.program);
+    print_head(page, &(const struct metric){ name, BUILD_INFO_IS, NULL });
     (void)fprintf(page, "%s{version=\"%d.%d.%d\",library=\"%u.%u.%u\",with=\"sqlite%s\"} 1\n", name,
                   KRBRELAY_VERSION_MAJOR, KRBRELAY_VERSION_MINOR, KRBRELAY_VERSION_PATCH,
                   library >> 16, library >> 8 & 0xff, library & 0xff,

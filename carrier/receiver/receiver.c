@@ -300,22 +300,39 @@ static void read_shards(void *given, const char *text)
              CARRIER_SHARDS);
 }
 
+/* tables/options.toml: rows, by tools/tables */
 static const struct option_row rows[] = {
     { .word = "sessions", .value = "FILE", .kind = OPTION_FILE, .at = offsetof(struct options, sessions),
       .help = "a line for each session: NAME SHARD ETYPE MODE KEY FIRST FROM TO [BACK]" },
     { .word = "store", .value = "WHERE", .at = offsetof(struct options, shard.store),
-      .help = "sqlite:FILE, in whose name '%' is the shard, or\npostgresql://USER@HOST/DATABASE" },
-    CARRIER_ROWS(struct options, shard.carrier),
+      .help = "sqlite:FILE, in whose name '%' is the shard, or\n"
+              "postgresql://USER@HOST/DATABASE" },
+    { .word = "carrier", .value = "WHERE", .at = offsetof(struct options, shard.carrier.where),
+      .help = "sqlite:FILE, or nats://HOST:PORT[,..], or tls://HOST:PORT[,..]" },
+    { .word = "credentials", .value = "FILE", .at = offsetof(struct options, shard.carrier.credentials),
+      .help = "who this is to NATS: a line USER PASSWORD, or NATS's own credentials;\n"
+              "only its owner may read it" },
+    { .word = "tls-ca", .value = "FILE", .at = offsetof(struct options, shard.carrier.tls_ca),
+      .help = "the certificates of who may sign servers': TLS is used (tls:// alone\n"
+              "takes those of the system)" },
+    { .word = "tls-name", .value = "NAME", .at = offsetof(struct options, shard.carrier.tls_name),
+      .help = "this name has to be in each server's certificate (any)" },
+    { .word = "tls-cert", .value = "FILE", .at = offsetof(struct options, shard.carrier.tls_cert),
+      .help = "the certificate of this program" },
+    { .word = "tls-key", .value = "FILE", .at = offsetof(struct options, shard.carrier.tls_key),
+      .help = "its key" },
     { .word = "shards", .value = "LIST", .kind = OPTION_TAKEN, .take = read_shards,
       .help = "the shards to be served, such as 0-3,7; auto: those of the sessions, which\n"
               "all receivers of the store that say so share" },
     { .word = "replicas", .value = "N", .kind = OPTION_NUMBER, .at = offsetof(struct options, shard.carrier.replicas),
-      .low = 1, .high = CARRIER_MOST_REPLICAS,
-      .help = "a stream with fewer isn't read; so many has that of receipts, if it is made\n(1)" },
+      .low = 1, .high = 5, .initial = 1,
+      .help = "a stream with fewer isn't read; so many has that of receipts, if it is made\n"
+              "(1)" },
     { .word = "batch", .value = "N", .kind = OPTION_NUMBER, .at = offsetof(struct options, shard.batch), .low = 1,
-      .high = MOST_FRAMES, .help = "so many frames go into a transaction at most (1024)" },
+      .high = 4096, .initial = 1024,
+      .help = "so many frames go into a transaction at most (1024)" },
     { .word = "skew", .value = "SECONDS", .kind = OPTION_NUMBER, .at = offsetof(struct options, shard.skew),
-      .high = UINT32_MAX,
+      .high = 4294967295, .initial = 86400,
       .help = "by so much a frame's time may be off (86400): more than the time for\n"
               "which the carrier keeps frames, or their session stands still" },
     { .word = "metrics", .value = "ADDRESS:PORT", .at = offsetof(struct options, metrics),
@@ -327,12 +344,18 @@ static const struct option_row rows[] = {
               "(effect.h); command:WORDS: each text is a line of JSON for this command, which\n"
               "answers a line: `ok`, `refuse REASON` or `again`" },
     { .word = "put-aside", .value = "N", .kind = OPTION_NUMBER, .at = offsetof(struct options, refusals),
-      .high = UINT32_MAX,
+      .high = 4294967295,
       .help = "a text that was refused N times is put into the table `aside`, with the\n"
               "reason (0: it is tried again for ever)" },
     { .word = "until-closed", .kind = OPTION_FLAG, .at = offsetof(struct options, shard.until_closed),
       .help = "ends once all sessions are closed" },
-    KERBEROS_ROWS(struct options, shard.kerberos),
+    { .word = "keytab", .value = "FILE", .at = offsetof(struct options, shard.kerberos.keytab),
+      .help = "sessions begin by tickets: the keys of this program's principal" },
+    { .word = "service", .value = "NAME", .at = offsetof(struct options, shard.kerberos.service),
+      .help = "the principal of all receivers of the store" },
+    { .word = "ticket-shards", .value = "N", .kind = OPTION_NUMBER,
+      .at = offsetof(struct options, shard.kerberos.shards), .low = 1, .high = CARRIER_SHARDS, .initial = 1,
+      .help = "sessions by tickets are in the shards below N (1): the same at both ends" },
     { .word = "allow", .value = "FILE", .at = offsetof(struct options, shard.kerberos.allowed),
       .help = "the clients that may begin sessions: a principal each line" },
 };
@@ -343,12 +366,11 @@ static const struct usage usage = {
     "ended for good, as after refused credentials; 2 for a wrong option.\n",
     rows, sizeof rows / sizeof *rows
 };
+/* end of rows */
 
 int main(int count, char **words)
 {
     int status;
-    options.shard = (struct shard_options){ .carrier = { .replicas = 1 }, .batch = 1024,
-                                            .kerberos = { .shards = 1 }, .skew = 86400 };
     options_read(&usage, count, words, &options);
     if ((options.sessions == NULL && options.shard.kerberos.keytab == NULL) || options.shard.store == NULL
         || options.shard.carrier.where == NULL || !options.has_shards)

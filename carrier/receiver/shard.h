@@ -28,8 +28,6 @@
 #include "sessions.h"
 #include "store.h"
 
-enum { MOST_FRAMES = 4096 }; /* of one transaction */
-
 struct shard_options {
     const char *store;
     struct carrier_options carrier;

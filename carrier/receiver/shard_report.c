@@ -8,46 +8,51 @@
 #include <math.h>
 #include <stdio.h>
 
-#define NAME "krbrelay_receiver_"
 #define SECOND UINT64_C(1000000000)  /* nanoseconds */
 #define SILENCE UINT64_C(2000000000) /* nanoseconds: service.h waits for ten seconds more */
-#define REFUSED(reason) \
-    { NAME "refused_frames_total", "counter", "Other frames that were refused, by reason", \
-      "reason=\"" reason "\"" }
-#define REFUSED_BY(name) REFUSED(#name),
-#define UNOPENED(name) REFUSED("OPENING_" #name),
 
-/* A number's name, its type, what it is, and its value. */
+/* A number's name, its type, what it is, and its value: of a shard; and those of which rows are below.
+ * tables/metrics.toml: metrics, by tools/tables */
 #define OF_SHARD(X) \
-    X("texts_total", "counter", "Texts that took effect", c->texts) \
-    X("text_bytes_total", "counter", "Bytes of all texts", c->bytes) \
-    X("texts_put_aside_total", "counter", "Texts that are in the table aside, with their reason", c->aside) \
-    X("accepted_frames_total", "counter", "Frames that were accepted", c->accepted) \
-    X("opened_sessions_total", "counter", "Sessions that began by a ticket", c->opened) \
-    X("receipts_total", "counter", "Receipts that were published", c->receipts) \
-    X("repeated_frames_total", "counter", "Frames that had been accepted before", c->repeats) \
-    X("early_frames_total", "counter", "Frames that came before one that is missing", c->early) \
-    X("transactions_total", "counter", "Transactions that were committed", c->commits) \
-    X("fenced_transactions_total", "counter", "Transactions that another receiver preceded", c->fenced) \
-    X("opening_seconds_total", "counter", "Time for opening frames", (double)c->opening / 1e9) \
-    X("carrier_seconds_total", "counter", "Time for fetching frames", (double)c->fetching / 1e9) \
-    X("store_seconds_total", "counter", "Time for effects and transactions", (double)c->storing / 1e9) \
-    X("offset", "gauge", "How far the shard was read", s->reading.read.offset) \
-    X("lag_frames", "gauge", "Frames that the carrier has after it", is_known ? (double)behind : NAN) \
-    X("loaded_sessions", "gauge", "Sessions of which frames came", s->count) \
-    X("standing_sessions", "gauge", "Sessions that miss a frame, or had one refused", s->standing.count)
-#define METRIC(name, type, help, value) { NAME name, type, help, NULL },
+    X("krbrelay_receiver_texts_total", "counter", "Texts that took effect", c->texts) \
+    X("krbrelay_receiver_text_bytes_total", "counter", "Bytes of all texts", c->bytes) \
+    X("krbrelay_receiver_texts_put_aside_total", "counter", "Texts that are in the table aside, with their reason", \
+      c->aside) \
+    X("krbrelay_receiver_accepted_frames_total", "counter", "Frames that were accepted", c->accepted) \
+    X("krbrelay_receiver_opened_sessions_total", "counter", "Sessions that began by a ticket", c->opened) \
+    X("krbrelay_receiver_receipts_total", "counter", "Receipts that were published", c->receipts) \
+    X("krbrelay_receiver_repeated_frames_total", "counter", "Frames that had been accepted before", c->repeats) \
+    X("krbrelay_receiver_early_frames_total", "counter", "Frames that came before one that is missing", c->early) \
+    X("krbrelay_receiver_transactions_total", "counter", "Transactions that were committed", c->commits) \
+    X("krbrelay_receiver_fenced_transactions_total", "counter", "Transactions that another receiver preceded", \
+      c->fenced) \
+    X("krbrelay_receiver_opening_seconds_total", "counter", "Time for opening frames", (double)c->opening / 1e9) \
+    X("krbrelay_receiver_carrier_seconds_total", "counter", "Time for fetching frames", (double)c->fetching / 1e9) \
+    X("krbrelay_receiver_store_seconds_total", "counter", "Time for effects and transactions", \
+      (double)c->storing / 1e9) \
+    X("krbrelay_receiver_offset", "gauge", "How far the shard was read", s->reading.read.offset) \
+    X("krbrelay_receiver_lag_frames", "gauge", "Frames that the carrier has after it", \
+      is_known ? (double)behind : NAN) \
+    X("krbrelay_receiver_loaded_sessions", "gauge", "Sessions of which frames came", s->count) \
+    X("krbrelay_receiver_standing_sessions", "gauge", "Sessions that miss a frame, or had one refused", \
+      s->standing.count)
+#define REFUSED_FRAMES_TOTAL "krbrelay_receiver_refused_frames_total", "counter", \
+    "Other frames that were refused, by reason"
+#define SESSION_STANDS "krbrelay_receiver_session_stands", "gauge", "Sessions that stand still, some of them by name"
+/* end of metrics */
+#define REFUSED(reason) { REFUSED_FRAMES_TOTAL, "reason=\"" reason "\"" },
+#define REFUSED_BY(name) REFUSED(#name)
+#define UNOPENED(name) REFUSED("OPENING_" #name)
+#define METRIC(name, type, help, value) { name, type, help, NULL },
 #define VALUE(name, type, help, value) (double)(value),
 
 /* Those of refusals are the last. */
 const struct metric shard_metrics[] = {
     OF_SHARD(METRIC)
-    REFUSED("NO_LINE"), REFUSAL_NAMES(REFUSED_BY) REFUSED("OTHER"), OPENING_REASONS(UNOPENED)
+    REFUSED("NO_LINE") REFUSAL_NAMES(REFUSED_BY) REFUSED("OTHER") OPENING_REASONS(UNOPENED)
 };
 const unsigned shard_metrics_count = sizeof shard_metrics / sizeof *shard_metrics;
-const struct metric shard_stands_metric = {
-    NAME "session_stands", "gauge", "Sessions that stand still, some of them by name", NULL
-};
+const struct metric shard_stands_metric = { SESSION_STANDS, NULL };
 
 #define ANSWER(name) KRBRELAY_##name,
 static const uint32_t refusals[OTHER_REFUSAL] = { 0, REFUSAL_NAMES(ANSWER) };

@@ -15,32 +15,57 @@
 #include <string.h>
 #include <sys/stat.h>
 
+/* tables/options.toml: rows, by tools/tables */
 static const struct option_row rows[] = {
     { .word = "sessions", .value = "FILE", .kind = OPTION_FILE, .at = offsetof(struct options, sessions),
       .help = "a line for each session: NAME SHARD ETYPE MODE KEY FIRST FROM TO [BACK]" },
     { .word = "outbox", .value = "FILE", .at = offsetof(struct options, outbox),
       .help = "SQLite's, in whose table `text` an application puts texts" },
-    CARRIER_ROWS(struct options, carrier),
-    { .word = "replicas", .value = "N", .kind = OPTION_NUMBER, .at = offsetof(struct options, carrier.replicas), .low = 1,
-      .high = CARRIER_MOST_REPLICAS, .help = "so many replicas has a stream that is made; one with fewer isn't used (1)" },
+    { .word = "carrier", .value = "WHERE", .at = offsetof(struct options, carrier.where),
+      .help = "sqlite:FILE, or nats://HOST:PORT[,..], or tls://HOST:PORT[,..]" },
+    { .word = "credentials", .value = "FILE", .at = offsetof(struct options, carrier.credentials),
+      .help = "who this is to NATS: a line USER PASSWORD, or NATS's own credentials;\n"
+              "only its owner may read it" },
+    { .word = "tls-ca", .value = "FILE", .at = offsetof(struct options, carrier.tls_ca),
+      .help = "the certificates of who may sign servers': TLS is used (tls:// alone\n"
+              "takes those of the system)" },
+    { .word = "tls-name", .value = "NAME", .at = offsetof(struct options, carrier.tls_name),
+      .help = "this name has to be in each server's certificate (any)" },
+    { .word = "tls-cert", .value = "FILE", .at = offsetof(struct options, carrier.tls_cert),
+      .help = "the certificate of this program" },
+    { .word = "tls-key", .value = "FILE", .at = offsetof(struct options, carrier.tls_key),
+      .help = "its key" },
+    { .word = "replicas", .value = "N", .kind = OPTION_NUMBER, .at = offsetof(struct options, carrier.replicas),
+      .low = 1, .high = 5, .initial = 1,
+      .help = "so many replicas has a stream that is made; one with fewer isn't used (1)" },
     { .word = "batch", .value = "N", .kind = OPTION_NUMBER, .at = offsetof(struct options, batch), .low = 1,
-      .high = BATCH_TEXTS, .help = "so many texts go into a frame at most (1)" },
+      .high = BATCH_TEXTS, .initial = 1,
+      .help = "so many texts go into a frame at most (1)" },
     { .word = "max-waiting", .value = "N", .kind = OPTION_NUMBER, .at = offsetof(struct options, most_waiting),
-      .high = INT32_MAX,
+      .high = 2147483647,
       .help = "while so many texts wait, for being sealed or for a receipt, the outbox refuses\n"
               "another one with the error `the outbox is full` (0: any number may wait)" },
     { .word = "metrics", .value = "ADDRESS:PORT", .at = offsetof(struct options, metrics),
       .help = "answers GET /metrics (Prometheus's text) and GET /healthz" },
     { .word = "drain", .kind = OPTION_FLAG, .at = offsetof(struct options, drain),
       .help = "ends once all is carried that can be" },
-    KERBEROS_ROWS(struct options, kerberos),
+    { .word = "keytab", .value = "FILE", .at = offsetof(struct options, kerberos.keytab),
+      .help = "sessions begin by tickets: the keys of this program's principal" },
+    { .word = "service", .value = "NAME", .at = offsetof(struct options, kerberos.service),
+      .help = "the principal of all receivers of the store" },
+    { .word = "ticket-shards", .value = "N", .kind = OPTION_NUMBER, .at = offsetof(struct options, kerberos.shards),
+      .low = 1, .high = CARRIER_SHARDS, .initial = 1,
+      .help = "sessions by tickets are in the shards below N (1): the same at both ends" },
     { .word = "client", .value = "NAME", .at = offsetof(struct options, kerberos.client),
-      .help = "the principal of this program: a name of a text that no line has is a\nstream of it" },
+      .help = "the principal of this program: a name of a text that no line has is a\n"
+              "stream of it" },
     { .word = "etype", .value = "N", .kind = OPTION_NUMBER, .at = offsetof(struct options, kerberos.etype), .low = 17,
-      .high = 18, .help = "of the keys of sessions: 17 or 18 (18)" },
+      .high = 18, .initial = 18,
+      .help = "of the keys of sessions: 17 or 18 (18)" },
     { .word = "life", .value = "SECONDS", .kind = OPTION_NUMBER, .at = offsetof(struct options, life), .low = 1,
-      .high = UINT32_MAX, .help = "after so long a stream's next text begins a session with a new key\n"
-                                  "(86400); SIGHUP has all streams begin one" },
+      .high = 4294967295, .initial = 86400,
+      .help = "after so long a stream's next text begins a session with a new key\n"
+              "(86400); SIGHUP has all streams begin one" },
 };
 
 static const struct usage usage = {
@@ -50,6 +75,7 @@ static const struct usage usage = {
     "`stopped` says, or if there is no ticket.\n",
     rows, sizeof rows / sizeof *rows
 };
+/* end of rows */
 
 static enum outbox_answer serve(struct sender *s)
 {
@@ -96,10 +122,6 @@ static int work(struct sender *s)
 int main(int count, char **words)
 {
     static struct sender sender;
-    sender.options.carrier.replicas = sender.options.batch = 1;
-    sender.options.kerberos.etype = 18;
-    sender.options.kerberos.shards = 1;
-    sender.options.life = 86400;
     options_read(&usage, count, words, &sender.options);
     if ((sender.options.sessions == NULL && sender.options.kerberos.keytab == NULL) || sender.options.outbox == NULL
         || sender.options.carrier.where == NULL)

@@ -7,47 +7,52 @@
 #include <math.h>
 #include <stdio.h>
 
-#define NAME "krbrelay_sender_"
 #define SILENCE 1.0 /* seconds: service.h waits for ten more before it says so */
 
-#define DELAYS_HELP \
-    "Seconds from the insertion of a text until its row was deleted, since a receipt said that it" \
-    " took effect"
-#define DELAYS_UP_TO(bound) \
-    { NAME "delay_seconds_bucket", "histogram", DELAYS_HELP, "le=\"" #bound "\"" },
-
-/* A number's name, its type, what it is, and its value: of the sender, and of each shard. */
+/* A number's name, its type, what it is, and its value: of the sender; and those of which rows are below.
+ * tables/metrics.toml: metrics, by tools/tables */
 #define OF_SENDER(X) \
-    X("sealed_frames_total", "counter", "Frames that were sealed", s->sealing.frames) \
-    X("published_frames_total", "counter", "Frames that were published", s->published) \
-    X("republished_frames_total", "counter", "Frames among them that were once more", s->again) \
-    X("sealing_seconds_total", "counter", "Time for sealing", (double)s->sealing.nanoseconds / 1e9) \
-    X("outbox_seconds_total", "counter", "Time for the outbox", (double)s->storing / 1e9) \
-    X("carrier_seconds_total", "counter", "Time for the carrier, with waits for its confirmations", \
+    X("krbrelay_sender_sealed_frames_total", "counter", "Frames that were sealed", s->sealing.frames) \
+    X("krbrelay_sender_published_frames_total", "counter", "Frames that were published", s->published) \
+    X("krbrelay_sender_republished_frames_total", "counter", "Frames among them that were once more", s->again) \
+    X("krbrelay_sender_sealing_seconds_total", "counter", "Time for sealing", (double)s->sealing.nanoseconds / 1e9) \
+    X("krbrelay_sender_outbox_seconds_total", "counter", "Time for the outbox", (double)s->storing / 1e9) \
+    X("krbrelay_sender_carrier_seconds_total", "counter", "Time for the carrier, with waits for its confirmations", \
       (double)s->carrying / 1e9) \
-    X("waiting_texts", "gauge", "Texts that wait for being sealed or for a receipt, as --max-waiting counts them", \
+    X("krbrelay_sender_waiting_texts", "gauge", \
+      "Texts that wait for being sealed or for a receipt, as --max-waiting counts them", \
       counted(s, outbox_count_texts)) \
-    X("waiting_texts_limit", "gauge", "Texts that may wait, as --max-waiting says; 0: any number", \
+    X("krbrelay_sender_waiting_texts_limit", "gauge", "Texts that may wait, as --max-waiting says; 0: any number", \
       s->options.most_waiting) \
-    X("oldest_text_seconds", "gauge", "Since the oldest text was put in that waits for being sealed, and whose session" \
-      " isn't stopped, if that is known", age_of_oldest(s)) \
-    X("receipts_total", "counter", "Receipts that covered more than those before", s->receipts) \
-    X("frames_without_receipt", "gauge", "Frames that are carried and wait for a receipt", s->unreceipted) \
-    X("held_sessions", "gauge", "Sessions that wait for a ticket, or for the one before", s->held) \
-    X("standing_sessions", "gauge", "Sessions that stand: nobody confirms, answers or takes their frames", s->standing) \
-    X("stopped_sessions", "gauge", "Sessions that are stopped", counted(s, outbox_count_stopped)) \
-    X("silent_seconds", "gauge", "Since a frame was carried, if any waits for the carrier's answer or the carrier is away", \
-      silent)
-#define METRIC(name, type, help, value) { NAME name, type, help, NULL },
+    X("krbrelay_sender_oldest_text_seconds", "gauge", \
+      "Since the oldest text was put in that waits for being sealed, and whose session isn't stopped, if that is known", \
+      age_of_oldest(s)) \
+    X("krbrelay_sender_receipts_total", "counter", "Receipts that covered more than those before", s->receipts) \
+    X("krbrelay_sender_frames_without_receipt", "gauge", "Frames that are carried and wait for a receipt", \
+      s->unreceipted) \
+    X("krbrelay_sender_held_sessions", "gauge", "Sessions that wait for a ticket, or for the one before", s->held) \
+    X("krbrelay_sender_standing_sessions", "gauge", \
+      "Sessions that stand: nobody confirms, answers or takes their frames", s->standing) \
+    X("krbrelay_sender_stopped_sessions", "gauge", "Sessions that are stopped", counted(s, outbox_count_stopped)) \
+    X("krbrelay_sender_silent_seconds", "gauge", \
+      "Since a frame was carried, if any waits for the carrier's answer or the carrier is away", silent)
+#define DELAY_SECONDS "krbrelay_sender_delay_seconds_bucket", "histogram", \
+    "Seconds from the insertion of a text until its row was deleted, since a receipt said that it took effect"
+#define DELAY_SECONDS_SUM "krbrelay_sender_delay_seconds_sum"
+#define DELAY_SECONDS_COUNT "krbrelay_sender_delay_seconds_count"
+#define WAITING_FRAMES "krbrelay_sender_waiting_frames", "gauge", "Frames of a shard that aren't carried"
+/* end of metrics */
+#define DELAYS_UP_TO(bound) { DELAY_SECONDS, "le=\"" #bound "\"" },
+#define METRIC(name, type, help, value) { name, type, help, NULL },
 #define VALUE(name, type, help, value) (double)(value),
 
 static const struct metric metrics[] = {
     OF_SENDER(METRIC)
     DELAY_BOUNDS(DELAYS_UP_TO)
-    { NAME "delay_seconds_bucket", "histogram", DELAYS_HELP, "le=\"+Inf\"" },
-    { NAME "delay_seconds_sum", NULL, NULL, NULL },
-    { NAME "delay_seconds_count", NULL, NULL, NULL },
-    { NAME "waiting_frames", "gauge", "Frames of a shard that aren't carried", NULL },
+    DELAYS_UP_TO(+Inf)
+    { DELAY_SECONDS_SUM, NULL, NULL, NULL },
+    { DELAY_SECONDS_COUNT, NULL, NULL, NULL },
+    { WAITING_FRAMES, NULL },
 };
 
 enum {

@@ -49,8 +49,8 @@ OPENING_OK;
     }
     return OPENING_OK"""), ("store.c", "client,", "name, client,")),
     "rows aren't compared": ("moved+stopped+bursts", 76, "DOUBLED", ("sqlite_store.c", """\
-next = ?7 AND closed = ?8 AND missed = ?9 AND at = ?10"
-                      " AND shard = ?11""", """\
+next = ?7 AND closed = ?8 AND missed = ?9"
+                      " AND at = ?10 AND shard = ?11""", """\
 ?7 IS NOT NULL AND ?8 IS NOT NULL AND ?9 IS NOT NULL"
                       " AND ?10 IS NOT NULL AND ?11 IS NOT NULL""")),
     "frames leave before they are stored": ("uncommitted", 1, "STANDS", ("sender.c", "SEAL_OK && outbox_commit", """\
@@ -131,7 +131,7 @@ s->reading.stored.list != list && end >= s->reading.stored.offset ? s->reading.s
     "offsets aren't compared": (
         "rows are: each frame that is accepted changes one",
         ("carrier+killed+lost", "lost+stopped", "killed+slow", "bursts+stopped"),
-        ("sqlite_store.c", "incarnation = ?2 AND offset = ?3", "?2 IS NOT NULL AND ?3 IS NOT NULL")),
+        ("sqlite_store.c", "shard.incarnation = ?2 AND shard.offset = ?3", "?2 IS NOT NULL AND ?3 IS NOT NULL")),
     "the session before isn't compared": (
         "only receivers of its shard go on with it, and each moves the shard's offset, which is compared",
         ("lost+tickets", "keys+tickets", "cut+killed+slow+tickets", "copied+stopped+tickets"),

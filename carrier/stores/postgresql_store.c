@@ -29,27 +29,30 @@ struct postgresql_store {
     int is_open;                  /* a transaction is open */
 };
 
-/* Each of those that change something changes one row if it stands where it is said, and else none. */
+/* Each of those that change something changes one row if it stands where it is said, and else none.
+ * tables/statements.toml: statements, by tools/tables */
 static const char *const own_sql[STORE_SQL] = {
-    [SELECT_REACHED] = "SELECT incarnation, at FROM shard WHERE shard = $1",
+    [SELECT_REACHED] = ("SELECT incarnation, at FROM shard WHERE shard = $1::int"),
     [SELECT_SESSIONS] = ("SELECT next, closed, missed, at, shard, name, history FROM session"
                          " WHERE name = ANY ($1::text[])"),
-    [MOVE_SHARD] = ("INSERT INTO shard (shard, incarnation, at) SELECT $1::bigint, $4::bigint, $5::bigint"
-                    " WHERE ($2::bigint = 0 AND $3::bigint = 0) OR EXISTS"
-                    " (SELECT 1 FROM shard WHERE shard = $1) ON CONFLICT (shard)"
-                    " DO UPDATE SET incarnation = $4, at = $5"
-                    " WHERE shard.incarnation = $2 AND shard.at = $3"),
+    [MOVE_SHARD] = ("INSERT INTO shard (shard, incarnation, at)"
+                    " SELECT $1::int, $4::bigint, $5::bigint"
+                    " WHERE ($2::bigint = 0 AND $3::bigint = 0) OR EXISTS (SELECT 1 FROM shard WHERE shard = $1::int)"
+                    " ON CONFLICT (shard) DO UPDATE SET incarnation = $4::bigint, at = $5::bigint"
+                    " WHERE shard.incarnation = $2::bigint AND shard.at = $3::bigint"),
     [ADD_SESSION] = ("INSERT INTO session (name, next, closed, missed, at, shard, since, history)"
-                     " VALUES ($1, $2::bigint, $3::int, $4::int, $5::bigint, $6::int,"
-                     " CASE WHEN $4 = 0 THEN 0 ELSE extract(epoch FROM now())::bigint END, $7)"
-                     " ON CONFLICT DO NOTHING"),
-    [MOVE_SESSION] = ("UPDATE session SET since = CASE WHEN next = $2::bigint AND (since > 0 OR $4::int = 0)"
-                      " THEN since WHEN $4 = 0 THEN 0 ELSE extract(epoch FROM now())::bigint END,"
-                      " next = $2, closed = $3::int, missed = $4,"
-                      " at = $5::bigint, shard = $6::int, history = $12 WHERE name = $1 AND next = $7::bigint"
-                      " AND closed = $8::int AND missed = $9::int AND at = $10::bigint AND shard = $11::int"),
-    [RESET_SESSIONS] = "UPDATE session SET at = 0, missed = 0 WHERE shard = $1::int",
+                     " VALUES ($1::text, $2::bigint, $3::int, $4::int, $5::bigint, $6::int,"
+                     " CASE WHEN $4::int = 0 THEN 0 ELSE extract(epoch FROM now())::bigint END, $7::text) ON CONFLICT DO NOTHING"),
+    [MOVE_SESSION] = ("UPDATE session SET"
+                      " since = CASE WHEN next = $2::bigint AND (since > 0 OR $4::int = 0) THEN since"
+                      " WHEN $4::int = 0 THEN 0 ELSE extract(epoch FROM now())::bigint END,"
+                      " next = $2::bigint, closed = $3::int, missed = $4::int,"
+                      " at = $5::bigint, shard = $6::int, history = $12::text"
+                      " WHERE name = $1::text AND next = $7::bigint AND closed = $8::int AND missed = $9::int"
+                      " AND at = $10::bigint AND shard = $11::int"),
+    [RESET_SESSIONS] = ("UPDATE session SET at = 0, missed = 0 WHERE shard = $1::int"),
 };
+/* end of statements */
 
 static int report(struct postgresql_store *s, const char *what)
 {

@@ -38,25 +38,30 @@ static const char *const columns[][2] = {
 };
 
 /* Each changes one row if it stands where it is said, and else none. A row that isn't there stands
- * at zeros, or nowhere. */
+ * at zeros, or nowhere.
+ * tables/statements.toml: statements, by tools/tables */
 static const char *const own_sql[STORE_SQL] = {
-    [SELECT_REACHED] = "SELECT incarnation, offset FROM shard WHERE shard = ?",
-    [SELECT_SESSIONS] = ("SELECT next, closed, missed, at, shard, name, history FROM session WHERE name IN"
-                         " (SELECT value FROM json_each('[' || trim(?, '{}') || ']'))"),
-    [MOVE_SHARD] = ("INSERT INTO shard (shard, incarnation, offset) SELECT ?1, ?4, ?5"
-                    " WHERE ?2 = 0 AND ?3 = 0 OR ?1 IN (SELECT shard FROM shard)"
+    [SELECT_REACHED] = ("SELECT incarnation, offset FROM shard WHERE shard = ?1"),
+    [SELECT_SESSIONS] = ("SELECT next, closed, missed, at, shard, name, history FROM session"
+                         " WHERE name IN (SELECT value FROM json_each('[' || trim(?1, '{}') || ']'))"),
+    [MOVE_SHARD] = ("INSERT INTO shard (shard, incarnation, offset)"
+                    " SELECT ?1, ?4, ?5"
+                    " WHERE (?2 = 0 AND ?3 = 0) OR EXISTS (SELECT 1 FROM shard WHERE shard = ?1)"
                     " ON CONFLICT (shard) DO UPDATE SET incarnation = ?4, offset = ?5"
-                    " WHERE incarnation = ?2 AND offset = ?3"),
+                    " WHERE shard.incarnation = ?2 AND shard.offset = ?3"),
     [ADD_SESSION] = ("INSERT INTO session (name, next, closed, missed, at, shard, since, history)"
-                     " VALUES (?1, ?2, ?3, ?4, ?5, ?6, iif(?4 = 0, 0, strftime('%s')), ?7)"
-                     " ON CONFLICT DO NOTHING"),
-    [MOVE_SESSION] = ("UPDATE session SET since = CASE WHEN next = ?2 AND (since > 0 OR ?4 = 0)"
-                      " THEN since WHEN ?4 = 0 THEN 0 ELSE strftime('%s') END,"
-                      " next = ?2, closed = ?3, missed = ?4, at = ?5, shard = ?6, history = ?12"
-                      " WHERE name = ?1 AND next = ?7 AND closed = ?8 AND missed = ?9 AND at = ?10"
-                      " AND shard = ?11"),
-    [RESET_SESSIONS] = "UPDATE session SET at = 0, missed = 0 WHERE shard = ?",
+                     " VALUES (?1, ?2, ?3, ?4, ?5, ?6,"
+                     " CASE WHEN ?4 = 0 THEN 0 ELSE strftime('%s') END, ?7) ON CONFLICT DO NOTHING"),
+    [MOVE_SESSION] = ("UPDATE session SET"
+                      " since = CASE WHEN next = ?2 AND (since > 0 OR ?4 = 0) THEN since"
+                      " WHEN ?4 = 0 THEN 0 ELSE strftime('%s') END,"
+                      " next = ?2, closed = ?3, missed = ?4,"
+                      " at = ?5, shard = ?6, history = ?12"
+                      " WHERE name = ?1 AND next = ?7 AND closed = ?8 AND missed = ?9"
+                      " AND at = ?10 AND shard = ?11"),
+    [RESET_SESSIONS] = ("UPDATE session SET at = 0, missed = 0 WHERE shard = ?1"),
 };
+/* end of statements */
 
 static int begin(struct store *base)
 {

@@ -108,7 +108,9 @@ static inline struct value bytes_value(const void *at, size_t len)
 
 /* ---- What a store does; the first member of each kind's own struct. */
 
+/* tables/statements.toml: names of statements, by tools/tables */
 enum store_sql { SELECT_REACHED, SELECT_SESSIONS, MOVE_SHARD, ADD_SESSION, MOVE_SESSION, RESET_SESSIONS, STORE_SQL };
+/* end of names of statements */
 enum { ANY_ROWS, ONE_ROW }; /* which a statement has to change, or its transaction has no effect */
 enum { STORE_REFUSAL = 256, STORE_COLUMNS = 16 }; /* the room for a refusal, and the most columns of one row */
 enum { STORE_STATEMENTS = 32 };                   /* the most that are given to one */

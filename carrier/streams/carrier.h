@@ -55,22 +55,6 @@ struct carrier_options {
     const char *tls_ca, *tls_cert, *tls_key, *tls_name; /* files, and a name; or NULL */
 };
 
-enum { CARRIER_MOST_REPLICAS = 5 };
-
-/* The options of a command line for these (options.h), which stand in this member of a program's struct. */
-#define CARRIER_ROWS(type, member) \
-    { .word = "carrier", .value = "WHERE", .at = offsetof(type, member.where), \
-      .help = "sqlite:FILE, or nats://HOST:PORT[,..], or tls://HOST:PORT[,..]" }, \
-    { .word = "credentials", .value = "FILE", .at = offsetof(type, member.credentials), \
-      .help = "who this is to NATS: a line USER PASSWORD, or NATS's own credentials;\nonly its owner may read it" }, \
-    { .word = "tls-ca", .value = "FILE", .at = offsetof(type, member.tls_ca), \
-      .help = "the certificates of who may sign servers': TLS is used (tls:// alone\ntakes those of the system)" }, \
-    { .word = "tls-name", .value = "NAME", .at = offsetof(type, member.tls_name), \
-      .help = "this name has to be in each server's certificate (any)" }, \
-    { .word = "tls-cert", .value = "FILE", .at = offsetof(type, member.tls_cert), \
-      .help = "the certificate of this program" }, \
-    { .word = "tls-key", .value = "FILE", .at = offsetof(type, member.tls_key), .help = "its key" }
-
 /* Ends the program with status 2 and a message unless the options that were taken go together. */
 void carrier_check_options(const char *program, const struct carrier_options *options);
 

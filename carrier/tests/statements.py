@@ -78,7 +78,10 @@ def rows() -> dict[str, typing.Any]:
 
 
 def statements() -> dict[str, Row]:
-    return {name: row for name, row in rows().items() if name not in NO_STATEMENTS}
+    """The values of a store's statement are those of the table of which its texts are written."""
+    written = tomllib.loads(building.text_of("tables/statements.toml"))["statement"]
+    return {name: {"values": written.get(name.upper(), {}).get("values", []), **row}
+            for name, row in rows().items() if name not in NO_STATEMENTS}
 
 
 def triggers() -> dict[str, dict[str, str]]:
@@ -140,9 +143,8 @@ def bare(tokens: list[str]) -> list[str]:
 
 
 def condition(tokens: list[str]) -> str:
-    """One comparison; that a value is among all of a column, as that a row of it exists."""
-    words = " ".join(bare(tokens)).replace("<>", "!=")
-    return re.sub(r"^(\S+) IN \( SELECT (\w+) FROM (\w+) \)$", r"EXISTS ( SELECT 1 FROM \3 WHERE \2 = \1 )", words)
+    """One comparison."""
+    return " ".join(bare(tokens)).replace("<>", "!=")
 
 
 def alternatives(tokens: list[str]) -> frozenset[str]:

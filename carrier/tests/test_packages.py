@@ -1,11 +1,13 @@
-"""What a package of the carrier has beside its programs says what they say: the pages of the manual their options,
-the rules and the dashboard of Prometheus their metrics, and the units how little they may do."""
+"""What a package of the carrier has beside its programs says what they say: the completions their options, the manual
+their events, the rules and the dashboard of Prometheus their metrics, and the units how little they may do."""
 import json
 import os
+import pathlib
 import re
 import shutil
 import subprocess
 import sys
+import tomllib
 
 import pytest
 import sources as places
@@ -13,32 +15,16 @@ import systemd_units
 
 HERE = os.path.dirname(os.path.abspath(__file__))
 SOURCES = os.path.dirname(HERE)
-OPTION = re.compile(r"--[a-z][a-z-]+")
-MAIN = {"sender": ("sender_main.c",), "receiver": ("receiver.c",)}
-OF_BOTH = ("carrier.h", "kerberos.h")
 METRIC = re.compile(r"\bkrbrelay_(?:sender|receiver)_\w+")
+
+
+def table(name):
+    return tomllib.loads(pathlib.Path(SOURCES, f"../tables/{name}.toml").read_text(encoding="utf-8"))
 
 
 def text_of(name):
     with open(places.place_of(name), encoding="utf-8") as file:
         return file.read()
-
-
-def usage_options(program):
-    """The options that a program has (options.h)."""
-    texts = "".join(text_of(name) for name in (*MAIN[program], *OF_BOTH))
-    return {f"--{it}" for it in (*re.findall(r'\.word = "([a-z-]+)"', texts), "help", "version")}
-
-
-def page_options(page):
-    lines = re.findall(r"^\.TP\n\.B (.*)$", text_of(f"man/{page}"), re.M)
-    return {it for line in lines for it in OPTION.findall(line.replace("\\", ""))}
-
-
-@pytest.mark.parametrize("program", MAIN)
-def test_the_manual_has_each_option(program):
-    assert len(usage_options(program)) > 15
-    assert page_options(f"krbrelay-{program}.8") == usage_options(program)
 
 
 @pytest.mark.parametrize("name", ["all", "cluster", "demo", "demo_kerberos", "realm"])
@@ -65,19 +51,6 @@ def test_a_purge_keeps_what_has_texts_or_keys(tmp_path):
         subprocess.run(["sh", "-c", moved, "postrm", "purge"], check=True)
         assert {name: (place / name).read_bytes() for name in left} == left
         assert os.path.isdir(place / "etc/krbrelay") == os.path.isdir(place / "var/lib/krbrelay") == bool(left)
-
-
-@pytest.mark.parametrize("name", ["put", "get"])
-def test_the_manual_of_put_and_get_has_each_option(name):
-    words = [sys.executable, os.path.join(SOURCES, "../python/krbrelay/carrier.py"), name, "--help"]
-    said = subprocess.run(words, check=True, stdout=subprocess.PIPE, text=True).stdout
-    named = set(OPTION.findall(said.partition("options:")[2]))
-    assert page_options(f"krbrelay-{name}.1") == named - {"--help"} and len(named) > 3
-
-
-def test_the_manual_of_status_has_each_option():
-    said = re.findall(r"^  (--.*)$", text_of("status").split('"""')[1], re.M)
-    assert page_options("krbrelay-status.8") == {it for line in said for it in OPTION.findall(line.split("  ")[0])}
 
 
 # The calls by which an event is logged, and its name, or two.
@@ -111,8 +84,8 @@ SHELLS = {"bash": (["bash", "-c", ASK_BASH, "{}"], "carrier.bash"),
 
 
 @pytest.mark.parametrize("shell", SHELLS)
-@pytest.mark.parametrize("name, page", [("status", "krbrelay-status.8"), ("put", "krbrelay-put.1"), ("get", "krbrelay-get.1")])
-def test_completions_have_each_option(shell, name, page, tmp_path):
+@pytest.mark.parametrize("name", ["status", "put", "get"])
+def test_completions_have_each_option(shell, name, tmp_path):
     if shutil.which(shell) is None:
         pytest.skip(f"{shell} isn't installed")
     program, (words, file) = tmp_path / f"krbrelay-{name}", SHELLS[shell]
@@ -122,23 +95,21 @@ def test_completions_have_each_option(shell, name, page, tmp_path):
     given = {"PATH": f"{tmp_path}:{os.environ['PATH']}", "HOME": str(tmp_path)}
     words = [*(it.replace("{}", program.name) for it in words), os.path.join(SOURCES, "completions", file)]
     said = subprocess.run(words, check=True, stdout=subprocess.PIPE, text=True, env=given, cwd=tmp_path).stdout
-    assert set(said.split()) - {"--help"} == page_options(page)
+    assert set(said.split()) - {"--help"} == {f"--{it['word']}" for it in table("options")["option"] if name in it.get("of", [])}
 
 
 def metrics():
-    """The metrics that the programs have."""
-    found = set()
-    for source in ("sender_report.c", "shard_report.c"):
-        text = text_of(source)
-        begin = re.search(r'^#define NAME "(\w+)"', text, re.M)[1]
-        found |= {begin + it for it in [*re.findall(r'(?:\{ NAME |X\()"(\w+)"', text), "build_info"]}
-    return found
+    """The names that the programs, a rule or a question may have: those of tables/metrics.toml."""
+    for group, rows in table("metrics").items():
+        for program in ("sender", "receiver") if group == "both" else (group,):
+            yield from (f"krbrelay_{program}_{name}{part}" for name, row in rows.items()
+                        for part in (("", "_bucket", "_sum", "_count") if row["type"] == "histogram" else ("",)))
 
 
-@pytest.mark.parametrize("name", ["alerts.yml", "alerts_test.yml", "dashboard.json"])
+@pytest.mark.parametrize("name", ["monitoring/alerts.yml", "monitoring/alerts_test.yml", "monitoring/dashboard.json", "OPERATION.md"])
 def test_metrics_that_are_named_are_there(name):
-    named = set(METRIC.findall(text_of(f"monitoring/{name}")))
-    assert len(named) > 8 and named <= metrics(), named - metrics()
+    named = set(METRIC.findall(text_of(name)))
+    assert len(named) > 8 and named <= {*metrics()}, named - {*metrics()}
 
 
 def test_each_rule_is_tried():

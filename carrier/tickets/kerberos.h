@@ -20,15 +20,6 @@ struct kerberos_options {
     unsigned shards;     /* these sessions are in the shards below this one */
 };
 
-/* The options of a command line for these at both ends (options.h), which stand in this member of a program's struct. */
-#define KERBEROS_ROWS(type, member) \
-    { .word = "keytab", .value = "FILE", .at = offsetof(type, member.keytab), \
-      .help = "sessions begin by tickets: the keys of this program's principal" }, \
-    { .word = "service", .value = "NAME", .at = offsetof(type, member.service), \
-      .help = "the principal of all receivers of the store" }, \
-    { .word = "ticket-shards", .value = "N", .kind = OPTION_NUMBER, .at = offsetof(type, member.shards), .low = 1, \
-      .high = CARRIER_SHARDS, .help = "sessions by tickets are in the shards below N (1): the same at both ends" }
-
 /* Ends the program with status 2 and a message unless the options that were taken go together.
  * `name` and `value` are the program's own one. */
 void kerberos_check_options(const char *program, const struct kerberos_options *options,

@@ -115,12 +115,14 @@ def put_command(words: Sequence[str]) -> int:
     parser.add_argument("session", metavar="SESSION", help="the session, or the stream")
     parser.add_argument("file", metavar="FILE", nargs="?", default="-",
                         help="the text: its bytes; by default, and for -, standard input")
+    # tables/options.toml: options of put, by tools/tables
     parser.add_argument("--outbox", metavar="FILE", required=True, help="the sender's outbox")
     parser.add_argument("--lines", action="store_true", help="each line is a text, without its end")
     parser.add_argument("--close", action="store_true",
-                        help="no text: the close, after which no text follows")
+                        help="no text: the close, after which no text of the session follows")
     parser.add_argument("--wait", metavar="SECONDS", type=float,
                         help="waits for a sender, and until receipts say that all took effect")
+    # end of options of put
     given = parser.parse_args(words)
     data = b"" if given.close else read(given.file)
     asked: List[Optional[Bytes]] = [None] if given.close else (
@@ -230,13 +232,18 @@ def get_command(words: Sequence[str]) -> int:
         "What is printed stays in the store. The status is 0, 1 if the store can't be read, and 2 "
         "for a wrong option."))
     parser.add_argument("session", metavar="SESSION", nargs="?", help="only texts of this session")
+    # tables/options.toml: options of get, by tools/tables
     parser.add_argument("--store", metavar="WHERE", required=True,
-                        help="as the receiver has it: sqlite:FILE or postgresql://..")
+                        help="as the receiver has it: sqlite:FILE or postgresql://.., which is "
+                             "asked by psql")
     parser.add_argument("--after", metavar="ID", type=int, default=0,
                         help="only texts after the one with this id")
     parser.add_argument("--count", metavar="N", type=int, help="ends after so many texts")
-    parser.add_argument("--follow", action="store_true", help="waits for further texts; of SQLite")
+    parser.add_argument("--follow", action="store_true",
+                        help="waits for further texts; only of SQLite, since in PostgreSQL a "
+                             "text may be stored after one with a higher id")
     parser.add_argument("--raw", action="store_true", help="prints the bytes of each text alone")
+    # end of options of get
     given = parser.parse_args(words)
     if not given.store.startswith(("sqlite:", "postgresql:")):
         parser.error("--store has to begin with sqlite: or postgresql:")

@@ -181,6 +181,7 @@ def tool(copy: Copy, what: str) -> Told:
     copy.commit()
     return copy.run({"self": ["pytest", "-q", "-x", "--deselect", OF_PLANTS, "tests/test_tools.py"],
                      "tables": ["pytest", "-q", "-x", "tests/test_tables.py"],
+                     "written": ["tools/tables", "--check"],
                      "packages": ["pytest", "-q", "-x", "carrier/tests/test_packages.py"],
                      "verdicts": ["pytest", "-q", "-x", "-k", "verdict", "tests/test_release.py"],
                      "release": ["pytest", "-q", "-x", "tests/test_release.py"],
