@@ -255,8 +255,8 @@ def told_all(count, done, postgres, what, is_so=True):
 def test_store_used(count, ends, postgres):
     """Another receiver's transaction has changed rows of each table: one that starts doesn't wait for it."""
     ends.send_all()
-    other = subprocess.Popen(["psql", "-q", postgres.where, "-c", "BEGIN; LOCK TABLE shard, session, passed,"
-                              " opened, effect IN ROW EXCLUSIVE MODE; SELECT pg_sleep(20); ROLLBACK"],
+    other = subprocess.Popen(["psql", "-q", postgres.where, "-c", "BEGIN; LOCK TABLE shard, session, opened,"
+                              " effect IN ROW EXCLUSIVE MODE; SELECT pg_sleep(20); ROLLBACK"],
                              stdout=subprocess.DEVNULL, stderr=subprocess.DEVNULL)
     time.sleep(1)
     done = ends.run("receiver", "--until-closed")
@@ -271,7 +271,7 @@ def test_privileges(count, ends, postgres):
     """A role that may not make tables, as by default in PostgreSQL 15, uses those that are there."""
     ends.send_all()
     for sql in ("CREATE ROLE plain LOGIN", "GRANT USAGE ON SEQUENCE effect_id_seq TO plain",
-                "GRANT SELECT, INSERT, UPDATE, DELETE ON shard, session, passed, effect TO plain"):
+                "GRANT SELECT, INSERT, UPDATE, DELETE ON shard, session, opened, effect TO plain"):
         postgres.ask(sql)
     done = ends.run("receiver", "--until-closed", store=postgres.where.replace("postgres@", "plain@"))
     told_all(count, done, postgres, "a role that may make no table")
