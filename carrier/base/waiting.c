@@ -82,7 +82,7 @@ static int take_changes(const struct waiting *it)
 void waiting_begin(struct waiting *it, int passes_on)
 {
     *it = (struct waiting){ .woken = eventfd(0, EFD_CLOEXEC | EFD_NONBLOCK), .changes = -1,
-                            .passes_on = passes_on };
+                            .heard = -1, .passes_on = passes_on };
     it->is_blind = it->woken < 0;
     if (it->woken < 0)
         log_system("descriptor_unopened", "eventfd"); /* it looks all the time */
@@ -99,6 +99,11 @@ void waiting_watch(struct waiting *it, const char *path)
                  field_number("milliseconds", BLIND),
                  field_text("text", "it is looked at so often: may this user have more instances of"
                             " inotify (fs.inotify.max_user_instances)?"));
+}
+
+void waiting_hear(struct waiting *it, int descriptor)
+{
+    it->heard = descriptor;
 }
 
 void waiting_wake(struct waiting *it)
@@ -135,18 +140,31 @@ static uint64_t end_of(const struct waiting *it, uint64_t now, uint64_t moment)
     return end;
 }
 
+static void poll_for(struct pollfd *all, nfds_t count, uint64_t milliseconds)
+{
+    struct timespec wait = { (time_t)(milliseconds / 1000), (long)(milliseconds % 1000) * 1000000 };
+    (void)ppoll(all, count, &wait, NULL); /* a signal may end it earlier: who waits looks again */
+}
+
+void waiting_for(int descriptor, uint64_t moment)
+{
+    struct pollfd it = { descriptor, POLLIN, 0 };
+    uint64_t now = milliseconds();
+    if (descriptor >= 0 && now < moment)
+        poll_for(&it, 1, moment - now);
+}
+
 /* Sleeps, and unless it is deaf no longer than until something comes: 1 if it was woken by another
  * thread. */
 static int sleep_until(struct waiting *it, int is_deaf, uint64_t now, uint64_t end)
 {
     struct pollfd all[] = { { is_deaf ? -1 : it->woken, POLLIN, 0 },
                             { is_deaf ? -1 : it->changes, POLLIN, 0 },
+                            { is_deaf ? -1 : it->heard, POLLIN, 0 },
                             { it->is_told ? -1 : ending_descriptor(), POLLIN, 0 } };
-    uint64_t time = end > now ? end - now : 0, count;
-    struct timespec wait = { (time_t)(time / 1000), (long)(time % 1000) * 1000000 };
-    /* A signal may end it earlier: who waits looks again. */
-    (void)ppoll(all, sizeof all / sizeof *all, &wait, NULL);
-    it->is_told |= all[2].revents != 0;
+    uint64_t count;
+    poll_for(all, sizeof all / sizeof *all, end > now ? end - now : 0);
+    it->is_told |= all[3].revents != 0;
     return read(it->woken, &count, sizeof count) > 0;
 }
 

@@ -13,7 +13,8 @@
 enum { WATCHED = 2, BRIEF = 5 }; /* files of one program at most; milliseconds */
 
 struct waiting {
-    int woken, changes;      /* descriptors: of waiting_wake, and of inotify or -1 */
+    int woken, changes;      /* descriptors: of waiting_wake, and of inotify or -1, */
+    int heard;               /* and one that is ready to be read when something has come, or -1 */
     int is_told;             /* it is known that the program is to end */
     int is_blind;            /* a file can't be watched */
     int passes_on;           /* what comes is for others: it isn't looked for again */
@@ -28,6 +29,12 @@ void waiting_begin(struct waiting *it, int passes_on);
 
 /* Whatever is written to this database, which is open, wakes who waits. */
 void waiting_watch(struct waiting *it, const char *path);
+
+/* From now on this descriptor wakes who waits, as long as it is ready to be read; none if it is -1. */
+void waiting_hear(struct waiting *it, int descriptor);
+
+/* Waits until a descriptor is ready to be read, or until this moment: for an answer within a call. */
+void waiting_for(int descriptor, uint64_t moment);
 
 /* Wakes who waits here, or is about to. Any thread may call it. */
 void waiting_wake(struct waiting *it);

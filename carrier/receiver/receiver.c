@@ -167,6 +167,8 @@ static void share(void)
     int receivers = locks->calls->count(locks);
     unsigned part = 0, served;
     show_locks();
+    if (look != NULL)
+        (void)look->is_away(look); /* its calls answer what its server asks */
     if (receivers < !is_cut_off || (look_at_carrier(receivers) && !is_cut_off))
         return; /* the store is away: what is served stays so; or it is counted from now on */
     if (!is_cut_off)

@@ -14,7 +14,8 @@
 
 enum {
     FORGOTTEN = 1024,
-    WAIT = 100, RETRY = 20, /* milliseconds of a call that waits, after a fault, */
+    WAIT = 100,             /* milliseconds after a fault, and until a list that isn't there is asked for again, */
+    WAIT_MOST = 1000,       /* then twice as long each time, up to this, */
     GATHERING = 5, FEW = 64 /* and after so few frames, so that more are taken together */
 };
 
@@ -489,17 +490,27 @@ static void tell_away(struct shard *s)
                  field_text("text", "it is opened again then, and the shard goes on where it was"));
 }
 
+/* The carrier has no list, or doesn't answer. */
+static void await_list(struct shard *s)
+{
+    if (s->unlisted.length == 0)
+        krbrelay_pause_begin(&s->unlisted, WAIT, milliseconds());
+    else
+        krbrelay_pause_grow(&s->unlisted, WAIT_MOST, milliseconds());
+    s->rests = krbrelay_pause_end(&s->unlisted);
+}
+
 /* Loads what isn't loaded: 1 if that was done, 0 if the carrier isn't ready, -1 after a fault of the store. */
 static int load(struct shard *s)
 {
     uint32_t then = KRBRELAY_THEN_WAIT;
     int answer = shard_load(s);
-    if (answer == 0)
-        return 1;
-    if (answer == 1) {
-        s->rests = milliseconds() + WAIT;
-        return 0;
-    }
+    if (answer == 1)
+        await_list(s);
+    else
+        s->unlisted.length = 0;
+    if (answer >= 0)
+        return !answer;
     if (krbrelay_shard_failed(&s->ends, KRBRELAY_FAILURE_FAULT, s->reading.read.offset, &then) != KRBRELAY_OK)
         s->rests = milliseconds() + WAIT; /* never: a shard is there */
     lose_store(s);
@@ -511,13 +522,13 @@ static int load(struct shard *s)
 static int fetch(struct shard *s)
 {
     uint64_t began = nanoseconds();
-    int count = s->carrier->fetch(s->carrier, s->frames, s->options->batch, s->carrier->file == NULL ? WAIT : 0);
+    int count = s->carrier->fetch(s->carrier, s->frames, s->options->batch);
     if (count >= 0)
         s->answered = nanoseconds();
     if (count == CARRIER_CHANGED)
         load_again(s);
-    else if (count < 0)
-        s->rests = milliseconds() + RETRY;
+    if (count < 0)
+        s->rests = milliseconds() + WAIT;
     if (count <= 0)
         return 0;
     s->looked = nanoseconds();
@@ -626,18 +637,22 @@ static int step(struct shard *s)
     return turn == KRBRELAY_TURN_WAIT ? 0 : take_some(s);
 }
 
+static uint64_t earlier(uint64_t one, uint64_t other)
+{
+    return one < other ? one : other;
+}
+
 /* When there is something to do after a step in which nothing came. */
 static uint64_t next_time(struct shard *s)
 {
     uint64_t look = (s->looked + QUIET) / MILLISECOND + 1, receipt = krbrelay_shard_next_time(&s->ends);
-    return look < receipt ? look : receipt;
+    return earlier(earlier(look, receipt), s->carrier->due(s->carrier));
 }
 
 /* When it rests no longer, or a receipt is due. */
 static uint64_t rest_ends(struct shard *s)
 {
-    uint64_t receipt = krbrelay_shard_next_time(&s->ends);
-    return receipt < s->rests ? receipt : s->rests;
+    return earlier(krbrelay_shard_next_time(&s->ends), s->rests);
 }
 
 int shard_step(struct shard *s, uint64_t *until)
@@ -648,12 +663,13 @@ int shard_step(struct shard *s, uint64_t *until)
         shard_pay(s);
     else
         count = step(s);
-    if (count > 0 && count < FEW && s->is_loaded && s->carrier->file != NULL && s->rests < began + GATHERING)
+    if (count > 0 && count < FEW && s->is_loaded && s->rests < began + GATHERING)
         s->rests = began + GATHERING;
-    if (milliseconds() < s->rests)
+    s->hears = milliseconds() >= s->rests;
+    if (!s->hears)
         *until = rest_ends(s);
     else
-        *until = count != 0 || !s->is_loaded || s->carrier->file == NULL ? 0 : next_time(s);
+        *until = count != 0 || !s->is_loaded ? 0 : next_time(s);
     return count;
 }
 

@@ -122,6 +122,8 @@ struct shard {
     uint64_t looked;               /* when a frame came last, or the list was looked at */
     uint64_t looked_at_store, shown; /* when that was done last */
     uint64_t rests;                /* nothing but receipts before this moment, in milliseconds */
+    struct krbrelay_pause unlisted; /* after a look for a list that isn't there */
+    int hears;                     /* what comes is taken at once, since it doesn't rest */
     unsigned long turn;            /* so often it was loaded */
     int is_loaded;                 /* what is read follows what is stored, as `ends` said last */
     size_t open;                   /* if it is asked for, so many sessions aren't closed */
@@ -140,7 +142,7 @@ void shard_use(struct shard *shard, struct sessions *sessions);
 /* Fetches frames, and takes them in a transaction, or some of them. Answers how many there were; or -1, if all is tried again
  * after a pause: after a fault of the store, which is opened again then, or where the effect of a text can't be had now,
  * as the log says. The next step is due at *until, in milliseconds of the clock that only rises, or as soon as frames
- * come. It waits for nothing, but for the store, for effects, and in calls of a carrier that wait (carrier.h). */
+ * come, if it hears. It waits for nothing but the store, effects, and what a server says of a list. */
 int shard_step(struct shard *shard, uint64_t *until);
 
 void shard_stop(struct shard *shard);

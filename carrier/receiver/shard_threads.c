@@ -147,8 +147,10 @@ static void *work(void *given)
     if (threads_open(served) == 0) {
         set(&it->has_begun);
         waiting_wake(serving.owner);
-        while (!threads_turn(served, &until))
+        while (!threads_turn(served, &until)) {
+            waiting_hear(&it->waiting, served->shard.hears ? served->shard.carrier->descriptor : -1);
             (void)waiting_until(&it->waiting, until); /* whatever came, a turn looks for it */
+        }
         threads_finish(served);
         if (is_closed(&served->shard))
             set(&it->is_closed);

@@ -9,7 +9,7 @@
 #include <stdlib.h>
 
 enum {
-    IDLE = 20,          /* milliseconds to wait for confirmations of a carrier that waits, or until what can't be waited for */
+    IDLE = 20,          /* milliseconds until what can't be waited for */
     PAUSE = 100,        /* milliseconds after a fault, */
     KEPT = 20,          /* and between two transactions that store only how far sessions are; */
     GATHERING = 3,      /* after a round in which not much was done, so that the next one has more to do */
@@ -464,11 +464,11 @@ static int keep(struct sender *s, int texts, enum outbox_answer *answer)
     return 1;
 }
 
-/* When the next round is due after one that has left nothing. With a carrier that tells what comes, that is waited for. */
+/* When the next round is due after one that has left nothing, if nothing comes before. */
 static uint64_t rest(struct sender *s, int has_done)
 {
     uint64_t now = milliseconds(), next = next_time(s);
-    if (s->sealable.count > 0 || next <= now || (has_done && (s->carrier->file == NULL || intake_wait(s))))
+    if (s->sealable.count > 0 || next <= now || (has_done && intake_wait(s)))
         return 0;
     if (has_done)
         s->rests = now + GATHERING;
@@ -480,7 +480,7 @@ static int relay(struct sender *s, enum outbox_answer *answer, uint64_t *until)
 {
     uint64_t began;
     size_t rose;
-    int has_kept, has_more, waits, texts = intake_wait(s);
+    int has_kept, has_more, texts = intake_wait(s);
     if (is_drained(s, texts))
         return 1;
     has_kept = keep(s, texts, answer);
@@ -489,11 +489,11 @@ static int relay(struct sender *s, enum outbox_answer *answer, uint64_t *until)
     began = nanoseconds();
     receipts_hear(s);
     has_more = turns_all(s);
-    waits = s->carrier->file == NULL && s->uncarried > 0 && !texts && !has_more;
-    rose = turns_count_carried(s, waits ? IDLE : 0);
+    rose = turns_count_carried(s);
+    s->hears = 1;
     report_silence(s, rose);
     s->carrying += nanoseconds() - began;
-    *until = has_more || waits ? 0 : rest(s, has_kept || rose > 0);
+    *until = has_more ? 0 : rest(s, has_kept || rose > 0);
     return 0;
 }
 
@@ -501,6 +501,7 @@ int sender_step(struct sender *s, enum outbox_answer *answer, uint64_t *until)
 {
     *answer = OUTBOX_OK;
     *until = s->rests;
+    s->hears = 0;
     if (milliseconds() < s->rests)
         return 0;
     *answer = look(s);

@@ -92,6 +92,7 @@ struct sender {
     int is_unheard;             /* it has to be looked for receipts: some may have come, */
     struct krbrelay_pause hearing, hearing_again; /* after these pauses; and what can't be heard now is tried again */
     uint64_t rests;             /* after a fault nothing is done before this moment, in milliseconds */
+    int hears;                  /* what comes is taken at once: all that came before was */
     uint64_t storing, carrying; /* nanoseconds */
     uint64_t rose;              /* when a frame was carried last, or the carrier was there and none waited for it, */
     uint64_t told;              /* and when it was reported that none is, or there was no reason to */
@@ -195,8 +196,8 @@ uint64_t turns_next_time(struct sender *s);
 /* Whether the list of a session's shard can't be had for long. */
 int turns_is_shard_away(const struct sender *s, const struct sending *it);
 
-/* Counts the frames that are carried now, and answers how many. Waits for the first at most so long. */
-size_t turns_count_carried(struct sender *s, int milliseconds);
+/* Counts the frames that are carried now, and answers how many. */
+size_t turns_count_carried(struct sender *s);
 
 /* Whether a lane has the session, by its answer to a call: that it hasn't is never, and told. */
 int turns_has(const struct sending *it, enum krbrelay_answer answer);

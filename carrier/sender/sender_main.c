@@ -87,8 +87,10 @@ static enum outbox_answer serve(struct sender *s)
     if (s->carrier->file != NULL)
         waiting_watch(&waiting, s->carrier->file);
     service_tell_ready();
-    while (!is_ending() && !sender_step(s, &answer, &until))
+    while (!is_ending() && !sender_step(s, &answer, &until)) {
+        waiting_hear(&waiting, s->hears ? s->carrier->descriptor : -1);
         (void)waiting_until(&waiting, until); /* whatever came, a round looks for it */
+    }
     waiting_end(&waiting);
     service_tell_end();
     return answer == OUTBOX_AGAIN ? OUTBOX_OK : answer;

@@ -279,7 +279,7 @@ void receipts_hear(struct sender *s)
     is_fault = s->carrier->receipts(s->carrier, hear, s) != 0; /* which is reported */
     begin_pause(&s->hearing, is_fault);
     s->has_heard |= !is_fault;
-    s->is_unheard = is_fault || s->carrier->file == NULL;
+    s->is_unheard = is_fault;
 }
 
 uint64_t receipts_next_time(const struct sender *s)

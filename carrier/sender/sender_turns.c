@@ -11,7 +11,8 @@ enum {
                      * many of them leave is krb_sender's */
     SERVED = 256,   /* services of a shard in one turn, */
     LEFT = 1024,    /* and frames that leave in one */
-    AWAY = 10000    /* milliseconds after which a shard whose list can't be had is told */
+    UNLISTED = 20,  /* milliseconds until a shard whose list can't be had is asked for again, */
+    AWAY = 10000    /* and after which that is told */
 };
 
 /* ---- What is counted */
@@ -278,14 +279,14 @@ enum krbrelay_answer turns_set_time(struct sender *s, struct lane *lane)
     return answer;
 }
 
-/* A shard whose list can't be had is asked for again with the next round. */
+/* A shard whose list can't be had is asked for again soon. */
 uint64_t turns_next_time(struct sender *s)
 {
     uint64_t next = UINT64_MAX, at;
     size_t i;
     for (i = 0; i < s->lane_count; i++) {
         struct lane *lane = &s->lanes[i];
-        at = lane->undone == 0 ? UINT64_MAX : lane->has_list ? krbrelay_lane_next_time(&lane->ends) : milliseconds() + 1;
+        at = lane->undone == 0 ? UINT64_MAX : lane->has_list ? krbrelay_lane_next_time(&lane->ends) : milliseconds() + UNLISTED;
         next = at < next ? at : next;
     }
     return next;
@@ -331,12 +332,12 @@ static int take_confirmed(struct sender *s, struct sending *it, const struct con
 }
 
 /* Confirmations of a session come one after another: it is noted once for all of them. */
-size_t turns_count_carried(struct sender *s, int milliseconds_to_wait)
+size_t turns_count_carried(struct sender *s)
 {
     struct confirmed list[COUNTED];
     struct sending *last = NULL;
     size_t rose = 0;
-    int i, found = s->carrier->confirmed(s->carrier, list, COUNTED, milliseconds_to_wait);
+    int i, found = s->carrier->confirmed(s->carrier, list, COUNTED);
     uint64_t now = milliseconds();
     for (i = 0; i < found; i++) {
         struct sending *it = of_tag(s, list[i].tag);
@@ -349,5 +350,5 @@ size_t turns_count_carried(struct sender *s, int milliseconds_to_wait)
     }
     if (last != NULL)
         note_carried(s, last);
-    return found == COUNTED ? rose + turns_count_carried(s, 0) : rose;
+    return found == COUNTED ? rose + turns_count_carried(s) : rose;
 }

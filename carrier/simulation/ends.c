@@ -150,11 +150,6 @@ static void note_end(int party)
     world.may_run[party] = !has(KIND_TAKEN_OVER);
 }
 
-int has_file(void)
-{
-    return world.seed % 2 == 1;
-}
-
 void ends_hold(int party, uint64_t moment)
 {
     world.busy[party] = world.resumes[party] = moment;

@@ -6,7 +6,7 @@
 #include <stdlib.h>
 #include <string.h>
 
-enum { CONFIRMED_WITHIN = 50, WAIT = 10, FAIR_WAIT = 50, HAPPENS_ALL_THE_SAME = 4 };
+enum { CONFIRMED_WITHIN = 50, HAPPENS_ALL_THE_SAME = 4 };
 
 /* A frame in a shard, or a receipt, whose `turn` is above that of those before. */
 struct item { struct carried it; uint8_t *bytes; unsigned shard; uint64_t turn; };
@@ -51,7 +51,7 @@ static void put_frame(unsigned shard, const char *session, const uint8_t *frame,
 {
     unsigned i;
     (void)put(&shards[shard], session, frame, len); /* the item: nothing more is said of it */
-    for (i = shard; has_file() && i < RECEIVERS; i += SHARDS)
+    for (i = shard; i < RECEIVERS; i += SHARDS)
         ends_wake(RECEIVER + (int)i, moment());
 }
 
@@ -214,18 +214,16 @@ static void drop_answer(struct answer **at)
     free(it);
 }
 
-static int confirmed(struct carrier *base, struct confirmed *list, size_t room, int time)
+static int confirmed(struct carrier *base, struct confirmed *list, size_t room)
 {
     struct answer **at = &((struct connection *)base)->answers;
     size_t count = 0;
-    if (time > 0)
-        pause_milliseconds(1);
     port_is_killed();
     while (*at != NULL && count < room && (*at)->due <= moment()) {
         list[count++] = (*at)->it;
         drop_answer(at);
     }
-    if (*at != NULL && has_file())
+    if (*at != NULL)
         ends_wake(running, (*at)->due);
     return (int)count;
 }
@@ -239,7 +237,7 @@ static void seek(struct carrier *base, unsigned shard, uint64_t offset)
     c->after = offset;
 }
 
-static int fetch(struct carrier *base, struct carried *list, size_t room, int time)
+static int fetch(struct carrier *base, struct carried *list, size_t room)
 {
     struct connection *c = (struct connection *)base;
     const struct items *from = &shards[c->shard];
@@ -250,8 +248,6 @@ static int fetch(struct carrier *base, struct carried *list, size_t room, int ti
         return CARRIER_CHANGED;
     while (count < room && c->after < from->count)
         list[count++] = from->at[c->after++].it;
-    if (count == 0 && time > 0)
-        pause_milliseconds(faults.is_over ? FAIR_WAIT : WAIT);
     return (int)count;
 }
 
@@ -297,7 +293,7 @@ static int acknowledge(struct carrier *base, unsigned shard, const struct carrie
         if (!faults.loses_receipts && !is_struck(faults.lost, KIND_LOST))
             keep_receipt(shard, &list[i]);
     }
-    for (party = SENDER; has_file() && party < SENDER + SENDERS; party++)
+    for (party = SENDER; party < SENDER + SENDERS; party++)
         ends_wake(party, moment());
     return 0;
 }
@@ -333,6 +329,11 @@ static int never(struct carrier *base)
     return 0;
 }
 
+static uint64_t not_due(struct carrier *base)
+{
+    return UINT64_MAX;
+}
+
 static void close_carrier(struct carrier *base)
 {
     struct connection *c = (struct connection *)base;
@@ -348,6 +349,6 @@ struct carrier *carrier_open(const struct carrier_options *options)
         return NULL;
     c->base = (struct carrier){ incarnation_of, make, publish, confirmed, seek, fetch, behind, acknowledge,
                                 give_receipts, forget_receipt, never, never, close_carrier,
-                                has_file() ? "memory" : NULL };
+                                not_due, NULL, -1 };
     return &c->base;
 }

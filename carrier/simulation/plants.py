@@ -7,7 +7,7 @@ FOUND = {
         ("sender_receipts.c", "own->is_known ? KRBRELAY_OWN_KNOWN : KRBRELAY_OWN_UNKNOWN", "KRBRELAY_OWN_UNKNOWN")),
     "a receipt above the next number is no receipt": ("restored", 1, "LEFT_OUT", ("sender_receipts.c", "RECEIPT_NONE",
          "RECEIPT_NONE || (read == RECEIPT_READ && receipt.n > it->end.progress.next)")),
-    "receipts leave before the commit": ("uncommitted", 6, "LOST", ("shard_transaction.c", """\
+    "receipts leave before the commit": ("uncommitted", 9, "LOST", ("shard_transaction.c", """\
         answer = s->store->commit""", """\
         answer = krbrelay_shard_stored(&s->ends) != KRBRELAY_OK;
     shard_pay(s);
@@ -19,7 +19,7 @@ FOUND = {
         ("shard.c", "if (opens)", "if (opens && number <= of->drafted.number)")),
     "a repeat is taken for nobody's": ("lost+killed", 19, "STANDS",
         ("shard.c", "if (opens)", "if (opens && number >= of->drafted.number)")),
-    "a refused frame is taken for nobody's": ("skewed", 2, "UNTRUE",
+    "a refused frame is taken for nobody's": ("skewed", 3, "UNTRUE",
         ("shard.c", "if (opens)", "if (opens && number != of->drafted.number)")),
     "a frame is accepted at any number": ("lost", 1, "OVERTAKEN", ("shard.c", "taken =", """\
 taken = &s->together.taken[place - s->together.first];
@@ -48,7 +48,7 @@ OPENING_FORKED;
 OPENING_OK;
     }
     return OPENING_OK"""), ("store.c", "client,", "name, client,")),
-    "rows aren't compared": ("moved+stopped+bursts", 76, "DOUBLED", ("sqlite_store.c", """\
+    "rows aren't compared": ("moved+stopped+bursts", 115, "DOUBLED", ("sqlite_store.c", """\
 next = ?7 AND closed = ?8 AND missed = ?9"
                       " AND at = ?10 AND shard = ?11""", """\
 ?7 IS NOT NULL AND ?8 IS NOT NULL AND ?9 IS NOT NULL"
@@ -69,7 +69,7 @@ SEAL_OK && outbox_insert(&s->outbox) == 0) {
         ("effects.c", "times >= chosen.tries;", "times > 0;")),
     "a failed text is never put aside": ("refused+aside", 1, "NOT_ASIDE",
         ("effects.c", "times >= chosen.tries;", "times > 1000 + chosen.tries;")),
-    "a session is forgotten before the next one has begun": ("tickets+killed+carrier", 14, "STANDS", ("outbox.c", """\
+    "a session is forgotten before the next one has begun": ("tickets+killed+carrier", 3, "STANDS", ("outbox.c", """\
 - 1 AND NOT EXISTS"
                       " (SELECT 1 FROM opened AS near JOIN frame ON frame.session = near.name"
                       " WHERE near.stream = ?1 AND near.turn IN (opened.turn, opened.turn + 1)) LIMIT""", "LIMIT")),
@@ -116,7 +116,7 @@ MADE_UP = {
         "the receiver misses the frame and asks for it", ("cut", "cut+lost+killed", "cut+deleted+lost", "cut+stopped")),
     "another list: goes on at what was carried": (
         "the receiver misses the frame and asks for it",
-        ("deleted+stopped", "deleted+lost+killed", "cut+deleted", "cut+deleted+stopped")),
+        ("deleted+stopped", "deleted+lost+killed+stopped", "cut+deleted", "cut+deleted+stopped")),
     "another list is read from where the last one was": (
         "the receiver misses the frame and asks for it",
         ("deleted", "deleted+tickets", "cut+deleted", "deleted+killed+purged"),

@@ -95,9 +95,6 @@ void ends_wake(int party, uint64_t at);
 /* The party does nothing until then. */
 void ends_hold(int party, uint64_t until);
 
-/* The carrier tells that something came; else its calls wait for it. */
-int has_file(void);
-
 /* ---- events.c: what happens in this second */
 
 void events_second(void);

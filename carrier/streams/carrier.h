@@ -81,16 +81,15 @@ struct carrier {
     int (*publish)(struct carrier *, unsigned shard, const char *session, uint32_t tag, uint64_t number,
                    const uint8_t *frame, size_t len);
 
-    /* Takes confirmations, up to room of them, and answers how many. Waits for the first at most so
-     * long, where a call waits (`file`). */
-    int (*confirmed)(struct carrier *, struct confirmed *list, size_t room, int milliseconds);
+    /* Takes confirmations, up to room of them, and answers how many. */
+    int (*confirmed)(struct carrier *, struct confirmed *list, size_t room);
 
     /* The next fetch begins after this offset of the shard, of the list that `incarnation` gave last. */
     void (*seek)(struct carrier *, unsigned shard, uint64_t offset);
 
-    /* Takes the next frames, up to room of them, and answers how many. Waits for the first at most so
-     * long, where a call waits. CARRIER_CHANGED: it is another list, or ends before: ask for the incarnation, and seek. */
-    int (*fetch)(struct carrier *, struct carried *list, size_t room, int milliseconds);
+    /* Takes the next frames, up to room of them, and answers how many. CARRIER_CHANGED: it is another list, or ends
+     * before: ask for the incarnation, and seek. */
+    int (*fetch)(struct carrier *, struct carried *list, size_t room);
 
     /* How many frames stand after the last that was fetched: about, and as far as that is known. */
     int (*behind)(struct carrier *, uint64_t *frames);
@@ -118,9 +117,14 @@ struct carrier {
 
     void (*close)(struct carrier *);
 
-    /* The file that is written to whenever frames or receipts come (waiting.h): then no call waits for them. NULL: calls
-     * wait, and what comes is only found by looking. */
+    /* When a fetch has something to do though nothing has come, in milliseconds of the clock that only rises; UINT64_MAX:
+     * never. */
+    uint64_t (*due)(struct carrier *);
+
+    /* No call waits until something comes: who waits is woken (waiting.h) by the file that is written to then, or NULL, or
+     * the descriptor that is ready to be read until calls have taken what came, or -1. */
     const char *file;
+    int descriptor;
 };
 
 struct carrier *nats_carrier_open(const struct carrier_options *options);

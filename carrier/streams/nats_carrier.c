@@ -12,8 +12,7 @@
 enum {
     RECONNECT = 200, /* milliseconds between tries, */
     AWAY = 10000,    /* and between two lines that say why there is no connection */
-    SILENT = 2000,   /* milliseconds after which a server that doesn't answer or read is left, and without a server after
-                      * which that is said */
+    SILENT = 2000,   /* milliseconds without a server after which that is said */
     FLUSHED = 500,   /* milliseconds that what was published has to leave at the end */
     STEP = 500,      /* milliseconds by which the wall clock may be set back, and nothing is done */
     SERVERS = 16,    /* the most servers of a name */
@@ -29,7 +28,9 @@ int nats_report(const char *what, natsStatus status)
 
 static int is_away(struct carrier *base)
 {
-    return natsConnection_Status(((struct nats_carrier *)base)->connection) != NATS_CONN_STATUS_CONNECTED;
+    struct nats_carrier *c = (struct nats_carrier *)base;
+    nats_look_around(c);
+    return natsConnection_Status(c->connection) != NATS_CONN_STATUS_CONNECTED;
 }
 
 /* Says each ten seconds why there is no connection, such as that a certificate has expired. Where nothing answers at an
@@ -39,7 +40,7 @@ static void report_away(struct nats_carrier *c)
     const char *detail = NULL;
     natsStatus status = natsConnection_GetLastError(c->connection, &detail);
     uint64_t now = milliseconds();
-    if (!is_away(&c->base))
+    if (natsConnection_Status(c->connection) == NATS_CONN_STATUS_CONNECTED)
         c->connected = now;
     if (now - c->connected < SILENT || now - c->told_away < AWAY)
         return;
@@ -53,8 +54,9 @@ static void report_away(struct nats_carrier *c)
 static int is_closed(struct carrier *base)
 {
     struct nats_carrier *c = (struct nats_carrier *)base;
+    nats_look_around(c);
     report_away(c);
-    if (!natsConnection_IsClosed(c->connection))
+    if (c->connection == NULL || !natsConnection_IsClosed(c->connection))
         return 0;
     log_fact(LEVEL_ERROR, "carrier_closed", field_text("text", "the connection has ended for good: were"
              " the credentials refused? This program ends, and reads them when it is started again"));
@@ -63,55 +65,48 @@ static int is_closed(struct carrier *base)
 
 /* ---- */
 
-/* What has come and wasn't fetched. What comes meanwhile isn't waited for. */
-static void drop_pending(natsSubscription *reader)
+static void free_dropped(struct nats_carrier *c)
 {
-    natsMsg *message = NULL;
-    int count = 0, bytes;
-    if (natsSubscription_GetPending(reader, &count, &bytes) != NATS_OK)
-        return;
-    for (; count > 0 && natsSubscription_NextMsg(&message, reader, 0) == NATS_OK; count--)
-        natsMsg_Destroy(message);
+    while (c->dropped_count > 0)
+        natsMsg_Destroy(c->dropped[--c->dropped_count]);
 }
 
-void nats_leave(struct nats_carrier *c, natsSubscription **it)
+void nats_drop(struct nats_carrier *c, natsMsg *message)
 {
-    natsSubscription **place = &c->left[c->left_count % NATS_LEFT];
-    if (*it == NULL)
+    if (message == NULL)
         return;
-    natsSubscription_Destroy(*place);
-    *place = *it;
-    *it = NULL;
-    c->left_count++;
-    drop_pending(*place);
-    (void)natsSubscription_Unsubscribe(*place); /* without a connection there is nothing to end */
+    if (c->dropped_count == NATS_DROPPED)
+        free_dropped(c);
+    c->dropped[c->dropped_count++] = message;
 }
 
-static void destroy(natsSubscription **it)
+void nats_leave(natsSubscription **it)
 {
-    natsSubscription_Destroy(*it);
+    natsSubscription_Destroy(*it); /* or nothing */
     *it = NULL;
 }
 
-/* Ends the connection once what was published has left, and then, when its thread has ended, what heard over it. */
+/* Ends the connection once what was published has left. It would wait for what subscriptions that end still had to send. */
 static void end_connection(struct nats_carrier *c)
 {
-    int i;
-    nats_stop_reading(c);
-    (void)natsConnection_FlushTimeout(c->connection, FLUSHED); /* a broker that is away loses it */
+    nats_leave(&c->reader); /* what was fetched stays held */
+    if (c->words != NULL)
+        nats_let_all_leave(c, FLUSHED); /* a broker that is away loses it */
     natsConnection_Destroy(c->connection);
     c->connection = NULL;
-    destroy(&c->replies);
-    destroy(&c->answers);
-    destroy(&c->receipts);
-    for (i = 0; i < NATS_LEFT; i++)
-        destroy(&c->left[i]);
+    nats_leave(&c->words);
+    nats_leave(&c->replies);
+    nats_leave(&c->answers);
+    nats_leave(&c->receipts);
 }
 
 static void close_it(struct carrier *base)
 {
     struct nats_carrier *c = (struct nats_carrier *)base;
+    nats_stop_reading(c);
     end_connection(c);
+    free_dropped(c);
+    nats_end_events(c);
     natsInbox_Destroy(c->inbox);
     natsOptions_Destroy(c->options);
     free(c);
@@ -153,11 +148,15 @@ static natsStatus set_credentials(natsOptions *options, const char *path)
     return status;
 }
 
+static int is_secure(const struct carrier_options *given)
+{
+    return given->tls_ca != NULL || given->tls_cert != NULL || strncmp(given->where, "tls://", 6) == 0;
+}
+
 static natsStatus set_tls(natsOptions *options, const struct carrier_options *given)
 {
     natsStatus status = NATS_OK;
-    if (given->tls_ca != NULL || given->tls_cert != NULL
-        || strncmp(given->where, "tls://", 6) == 0)
+    if (is_secure(given))
         status = natsOptions_SetSecure(options, true);
     if (status == NATS_OK && given->tls_ca != NULL)
         status = natsOptions_LoadCATrustedCertificates(options, given->tls_ca);
@@ -203,13 +202,16 @@ natsStatus nats_hear(struct nats_carrier *c, const char *word, natsSubscription 
 /* Connects, and hears what comes to the inbox. */
 static natsStatus connect_to(struct nats_carrier *c)
 {
-    natsStatus status = natsConnection_Connect(&c->connection, c->options);
+    natsStatus status;
+    c->sockets = 0;
+    c->read = milliseconds();
+    status = natsConnection_Connect(&c->connection, c->options);
     c->ahead = wall_clock_ahead();
     if (status == NATS_OK || status == NATS_NOT_YET_CONNECTED)
         status = nats_hear(c, "*.*.*.*", &c->answers);
     if (status == NATS_OK)
         status = natsSubscription_SetPendingLimits(c->answers, -1, -1);
-    return status;
+    return status == NATS_OK ? nats_hear(c, "word", &c->words) : status;
 }
 
 static natsStatus begin(struct nats_carrier *c)
@@ -218,9 +220,7 @@ static natsStatus begin(struct nats_carrier *c)
     if (status == NATS_OK)
         status = natsOptions_SetReconnectWait(c->options, RECONNECT);
     if (status == NATS_OK)
-        status = natsOptions_SetPingInterval(c->options, SILENT / 2);
-    if (status == NATS_OK)
-        status = natsOptions_SetWriteDeadline(c->options, SILENT);
+        status = nats_begin_events(c);
     if (status == NATS_OK)
         status = natsInbox_Create(&c->inbox);
     return status == NATS_OK ? connect_to(c) : status;
@@ -236,7 +236,7 @@ static void note_connected(natsConnection *connection, void *given)
 /* Another connection, which isn't waited for. */
 static natsStatus connect_anew(struct nats_carrier *c)
 {
-    const int hears_receipts = c->receipts != NULL;
+    const int hears_receipts = c->receipts != NULL || c->has_read_kept;
     natsStatus status = natsOptions_SetRetryOnFailedConnect(c->options, true, note_connected, c);
     end_connection(c);
     if (status == NATS_OK)
@@ -244,7 +244,7 @@ static natsStatus connect_anew(struct nats_carrier *c)
     return status == NATS_OK && hears_receipts ? nats_hear_receipts(c) : status;
 }
 
-void nats_look_at_clock(struct nats_carrier *c)
+static void look_at_clock(struct nats_carrier *c)
 {
     int64_t ahead = wall_clock_ahead(), before = c->ahead;
     natsStatus status;
@@ -255,6 +255,13 @@ void nats_look_at_clock(struct nats_carrier *c)
     log_fact(LEVEL_WARNING, "clock_set_back", field_number("milliseconds", (uint64_t)(before - ahead)),
              field_text("connection", natsStatus_GetText(status)),
              field_text("text", "another connection is begun, since the one before may wait for as long"));
+}
+
+void nats_look_around(struct nats_carrier *c)
+{
+    look_at_clock(c);
+    if (nats_is_lost(c))
+        (void)connect_anew(c); /* one that isn't there yet is reported as away */
 }
 
 /* How many servers a name has: it may have passwords, which aren't printed. */
@@ -297,7 +304,9 @@ struct carrier *nats_carrier_open(const struct carrier_options *options)
     if (c == NULL)
         return NULL;
     c->base = (struct carrier){ nats_incarnation, nats_make, nats_publish, nats_confirmed, nats_seek, nats_fetch,
-                                nats_behind, nats_acknowledge, nats_receipts, nats_forget, is_away, is_closed, close_it, NULL };
+                                nats_behind, nats_acknowledge, nats_receipts, nats_forget, is_away, is_closed, close_it,
+                                nats_due, NULL, -1 };
+    c->is_secure = is_secure(options);
     c->replicas = options->replicas;
     c->has_password = strchr(options->where, '@') != NULL;
     status = natsOptions_Create(&c->options);

@@ -2,7 +2,7 @@
  * krb.N.SESSION, an offset is a sequence number of the stream, and its incarnation is the time at
  * which it was made.
  *
- * libnats waits by the wall clock, so no part of it is asked to wait: these look, and pause by themselves. */
+ * libnats waits by the wall clock, so no part of it is asked to wait: these read its socket, and wait by themselves. */
 #ifndef NATS_CARRIER_H
 #define NATS_CARRIER_H
 
@@ -11,7 +11,7 @@
 #include <krbrelay.h>
 #include <nats/nats.h>
 
-enum { NATS_HELD = 4096, NATS_LEFT = 8, NATS_TEXT = 512, NATS_SUBJECT = 160, NATS_NAME = 32 };
+enum { NATS_HELD = 4096, NATS_DROPPED = 64, NATS_TEXT = 512, NATS_SUBJECT = 160, NATS_NAME = 32 };
 
 /* Streams have the numbers of their shards; that of receipts has this one. */
 enum { NATS_RECEIPTS = CARRIER_SHARDS };
@@ -25,6 +25,13 @@ struct nats_carrier {
     int64_t ahead;                      /* by so many milliseconds the wall clock is ahead of the one that only rises */
     unsigned replicas;
     natsInbox *inbox;
+    /* Its socket, or -1, and how many the connection had, both of which a thread of libnats may set; whether TLS is spoken
+     * there; when something was read, and when a word of the server was asked for, in milliseconds. */
+    int socket, sockets, is_secure;
+    uint64_t read, asked_word;
+    natsSubscription *words;
+    natsMsg *dropped[NATS_DROPPED];     /* messages that aren't needed any more */
+    int dropped_count;
     /* Questions that are waited for (nats_streams.c): their answers, how many were asked, milliseconds to wait for one,
      * and those that the last answer took, or 0. */
     natsSubscription *replies;
@@ -44,8 +51,7 @@ struct nats_carrier {
     uint64_t incarnation, after, delivered;
     uint64_t known;                     /* it has been here: what is gone before it was told */
     uint64_t pending;                   /* frames after the last, when it was delivered */
-    uint64_t heard;                     /* when the consumer said something last, in milliseconds, */
-    uint64_t came;                      /* and when a frame of it came last, or 0 */
+    uint64_t heard;                     /* when the consumer said something last, in milliseconds */
     int has_others;                     /* the stream has other subjects than the shard's */
     natsSubscription *reader;
     natsMsg *held[NATS_HELD];
@@ -57,8 +63,6 @@ struct nats_carrier {
     int has_password;                   /* a name of --carrier has one, so what NATS says of servers isn't printed */
     uint64_t connected, told_away;      /* when it had a connection, and when it was told last why it has none, both in
                                          * milliseconds */
-    natsSubscription *left[NATS_LEFT];  /* those that were left last: nothing comes for them any more */
-    unsigned left_count;                /* so many were left */
 };
 
 /* Logs a fault of a call; CARRIER_FAULT. */
@@ -67,13 +71,36 @@ int nats_report(const char *what, natsStatus status);
 /* Subscribes to what is said to this carrier under a word of its inbox, such as "*.frames". */
 natsStatus nats_hear(struct nats_carrier *c, const char *word, natsSubscription **subscription);
 
-/* Ends a subscription, and drops what it heard. A thread of libnats 3.4 may have looked it up and use it still, so it is
- * destroyed when NATS_LEFT more were left, or the connection has ended. */
-void nats_leave(struct nats_carrier *c, natsSubscription **it);
+/* A message, or none, isn't needed any more. libnats wakes a thread for each that it frees, so many are freed at once. */
+void nats_drop(struct nats_carrier *c, natsMsg *message);
 
-/* Where the wall clock was set back, a wait of libnats's threads may last for as long: another connection is begun. It is
- * called whenever the caller asks for something. */
-void nats_look_at_clock(struct nats_carrier *c);
+/* Ends a subscription, and drops what it heard. */
+void nats_leave(natsSubscription **it);
+
+/* Called whenever the caller asks for something. Another connection is begun where this one was lost, or the server answers
+ * nothing; and where the wall clock was set back, since a wait of libnats's threads may last for as long. */
+void nats_look_around(struct nats_carrier *c);
+
+/* ---- nats_events.c: the connection's socket. */
+
+/* Before a connection is begun; after it has ended. */
+natsStatus nats_begin_events(struct nats_carrier *c);
+void nats_end_events(struct nats_carrier *c);
+
+/* Reads some of what has come, and writes what is to leave: 1 if it has read something. */
+int nats_turn(struct nats_carrier *c);
+
+/* Takes a message of a subscription: NATS_TIMEOUT if none has come; or waits at most so many milliseconds for it. */
+natsStatus nats_next(struct nats_carrier *c, natsSubscription *from, natsMsg **message);
+natsStatus nats_await(struct nats_carrier *c, natsSubscription *from, natsMsg **message, int milliseconds);
+
+/* Where too much waits to leave, waits for that; until all that was published is with the server, at most so long. */
+void nats_let_leave(struct nats_carrier *c);
+void nats_let_all_leave(struct nats_carrier *c, int milliseconds);
+
+/* Asks a server of which nothing was heard for a word, and leaves one that doesn't answer. Whether another
+ * connection has to be begun. */
+int nats_is_lost(struct nats_carrier *c);
 
 /* ---- nats_streams.c: what streams and their consumers say. */
 
@@ -105,9 +132,6 @@ natsStatus nats_consume(struct nats_carrier *c, const char *stream, const char *
 struct nats_place { uint64_t offset, turn, left; };
 int nats_read_place(natsMsg *message, struct nats_place *it);
 
-/* Waits for a message at most so long, by a clock that isn't set. */
-natsStatus nats_await(const struct nats_carrier *c, natsSubscription *from, natsMsg **message, int milliseconds);
-
 /* Asks about a stream, or has it made; the answer comes to that subject, and isn't waited for. How it is made. */
 void nats_ask(struct nats_carrier *c, const char *what, const char *stream, const char *reply, const char *text);
 void nats_write_stream(const struct nats_carrier *c, unsigned stream, char text[NATS_TEXT]);
@@ -127,13 +151,14 @@ int nats_read_one(struct nats_carrier *c, struct confirmed *list, int *count);
 int nats_make(struct carrier *base, unsigned shard, uint64_t *incarnation);
 int nats_publish(struct carrier *base, unsigned shard, const char *session, uint32_t tag,
                  uint64_t number, const uint8_t *frame, size_t len);
-int nats_confirmed(struct carrier *base, struct confirmed *list, size_t room, int milliseconds);
+int nats_confirmed(struct carrier *base, struct confirmed *list, size_t room);
 
 /* ---- nats_reader.c */
 
 int nats_incarnation(struct carrier *base, unsigned shard, uint64_t *incarnation, uint64_t *end);
 void nats_seek(struct carrier *base, unsigned shard, uint64_t offset);
-int nats_fetch(struct carrier *base, struct carried *list, size_t room, int milliseconds);
+int nats_fetch(struct carrier *base, struct carried *list, size_t room);
+uint64_t nats_due(struct carrier *base);
 int nats_behind(struct carrier *base, uint64_t *frames);
 void nats_stop_reading(struct nats_carrier *c);
 

@@ -126,6 +126,7 @@ int nats_publish(struct carrier *base, unsigned shard, const char *session, uint
                 (unsigned long long)c->made[shard].incarnation, shard, (unsigned long)tag,
                 (unsigned long long)number);
     status = natsConnection_PublishRequest(c->connection, subject, reply, frame, (int)len);
+    nats_let_leave(c);
     if (status == NATS_OK)
         return 0;
     return status == NATS_MAX_PAYLOAD ? CARRIER_REFUSED : nats_report("publish", status);
@@ -185,28 +186,21 @@ static void doubt_all(struct nats_carrier *c)
 int nats_read_one(struct nats_carrier *c, struct confirmed *list, int *count)
 {
     natsMsg *message = NULL;
-    natsStatus status = natsSubscription_NextMsg(&message, c->answers, 0);
+    natsStatus status = nats_next(c, c->answers, &message);
     if (status == NATS_OK)
         *count += read_message(c, message, &list[*count]);
-    natsMsg_Destroy(message);
+    nats_drop(c, message);
     if (status == NATS_NO_RESPONDERS)
         doubt_all(c);
     return status == NATS_OK || status == NATS_NO_RESPONDERS;
 }
 
-/* The library waits by a clock that may be set: so this one looks, and pauses by itself. */
-int nats_confirmed(struct carrier *base, struct confirmed *list, size_t room, int wait)
+int nats_confirmed(struct carrier *base, struct confirmed *list, size_t room)
 {
     struct nats_carrier *c = (struct nats_carrier *)base;
-    uint64_t end = milliseconds() + (uint64_t)wait;
     int count = 0, has_more = 1;
-    nats_look_at_clock(c);
-    while (has_more && (size_t)count < room) {
+    nats_look_around(c);
+    while (has_more && (size_t)count < room)
         has_more = nats_read_one(c, list, &count);
-        if (!has_more && count == 0 && milliseconds() < end) {
-            pause_milliseconds(1);
-            has_more = 1;
-        }
-    }
     return count;
 }

@@ -14,8 +14,7 @@
 #include <string.h>
 
 enum {
-    RETRY = 100,        /* milliseconds: after a fault, */
-    HEARTBEAT = 500,    /* between two messages of a consumer at most, */
+    HEARTBEAT = 700,    /* milliseconds: between two messages of a consumer at most, */
     SILENT = 1500,      /* and after which it isn't there any more */
     PENDING = 256 << 20 /* bytes that have come and weren't fetched */
 };
@@ -30,7 +29,7 @@ static void let_go(struct nats_carrier *c)
 void nats_stop_reading(struct nats_carrier *c)
 {
     let_go(c);
-    nats_leave(c, &c->reader);
+    nats_leave(&c->reader);
 }
 
 void nats_seek(struct carrier *base, unsigned shard, uint64_t offset)
@@ -62,7 +61,7 @@ int nats_incarnation(struct carrier *base, unsigned shard, uint64_t *incarnation
     struct nats_carrier *c = (struct nats_carrier *)base;
     struct nats_stream it;
     natsStatus status;
-    nats_look_at_clock(c);
+    nats_look_around(c);
     status = ask_shard(c, shard, &it);
     *incarnation = status == NATS_OK ? it.created : 0;
     *end = status == NATS_OK ? it.last : 0;
@@ -110,7 +109,7 @@ static int begin_reading(struct nats_carrier *c)
     nats_name_stream(c->shard, name);
     status = make_consumer(c, name);
     if (status != NATS_OK) {
-        nats_leave(c, &c->reader);
+        nats_leave(&c->reader);
         return nats_report(name, status);
     }
     c->delivered = 0;
@@ -166,51 +165,55 @@ static natsStatus read_word(struct nats_carrier *c, natsMsg *message)
 }
 
 /* The next frame, which stays held, if one has come: *has_frame says so. A status that isn't NATS_OK ends a fetch. */
-static natsStatus fetch_one(struct nats_carrier *c, struct carried *it, int milliseconds_to_wait, int *has_frame)
+static natsStatus fetch_one(struct nats_carrier *c, struct carried *it, int *has_frame)
 {
     natsMsg *message = NULL;
-    natsStatus status = nats_await(c, c->reader, &message, milliseconds_to_wait);
+    natsStatus status = nats_next(c, c->reader, &message);
     *has_frame = 0;
     if (status != NATS_OK)
         return status == NATS_TIMEOUT && milliseconds() - c->heard > SILENT ? NATS_MISSED_HEARTBEAT : status;
     c->heard = milliseconds();
     if (strncmp(natsMsg_GetSubject(message), "krb.", 4) != 0) {
         status = read_word(c, message);
-        natsMsg_Destroy(message);
+        nats_drop(c, message);
         return status;
     }
     *has_frame = read_frame(c, message, it);
     if (!*has_frame) {
-        natsMsg_Destroy(message);
+        nats_drop(c, message);
         return NATS_MISMATCH;
     }
     c->held[c->held_count++] = message;
-    c->came = c->heard;
     return NATS_OK;
 }
 
-int nats_fetch(struct carrier *base, struct carried *list, size_t room, int milliseconds)
+int nats_fetch(struct carrier *base, struct carried *list, size_t room)
 {
     struct nats_carrier *c = (struct nats_carrier *)base;
     natsStatus status = NATS_OK;
     int count = 0, answer, has_frame;
     let_go(c);
-    nats_look_at_clock(c);
+    nats_look_around(c);
     if (c->made[NATS_RECEIPTS].question != 0)
         nats_look_for_receipts(c);
-    if (c->reader == NULL && (answer = begin_reading(c)) != 0) {
-        pause_milliseconds(RETRY);
+    if (c->reader == NULL && (answer = begin_reading(c)) != 0)
         return answer;
-    }
     while ((size_t)count < room && count < NATS_HELD && status == NATS_OK) {
-        status = fetch_one(c, &list[count], count == 0 ? milliseconds : 0, &has_frame);
+        status = fetch_one(c, &list[count], &has_frame);
         count += has_frame;
     }
     if (status == NATS_OK || status == NATS_TIMEOUT)
         return count;
-    nats_leave(c, &c->reader); /* what was fetched stays held */
+    nats_leave(&c->reader); /* what was fetched stays held */
     answer = nats_report("a reader begins again after what it had", status);
     return count > 0 ? count : answer;
+}
+
+/* Whether the consumer has said anything is looked at when it would be too long ago. */
+uint64_t nats_due(struct carrier *base)
+{
+    const struct nats_carrier *c = (const struct nats_carrier *)base;
+    return c->reader != NULL ? c->heard + SILENT + 1 : 0;
 }
 
 int nats_behind(struct carrier *base, uint64_t *frames)

@@ -49,7 +49,9 @@ int nats_acknowledge(struct carrier *base, unsigned shard, const struct carried 
     for (i = 0; i < count && status == NATS_OK; i++) {
         write_whole(subject, sizeof subject, "krbr.%u.%s", shard, list[i].session);
         status = natsConnection_Publish(c->connection, subject, list[i].frame, (int)list[i].len);
+        nats_let_leave(c);
     }
+    (void)nats_turn(c); /* they leave; what it has read waits for who asks for it */
     return status == NATS_OK ? 0 : nats_report("a receipt", status);
 }
 
@@ -80,9 +82,9 @@ static natsStatus read_kept(struct nats_carrier *c, uint64_t messages, carrier_r
             give(message, take, given);
             status = nats_read_place(message, &place) ? NATS_OK : NATS_MISMATCH;
         }
-        natsMsg_Destroy(message);
+        nats_drop(c, message);
     }
-    nats_leave(c, &reader);
+    nats_leave(&reader);
     return status;
 }
 
@@ -116,10 +118,10 @@ int nats_receipts(struct carrier *base, carrier_receipt *take, void *given)
         return nats_report("the last receipts", status);
     while (status == NATS_OK) {
         natsMsg *message = NULL;
-        status = natsSubscription_NextMsg(&message, c->receipts, 0);
+        status = nats_next(c, c->receipts, &message);
         if (status == NATS_OK)
             give(message, take, given);
-        natsMsg_Destroy(message);
+        nats_drop(c, message);
     }
     return status == NATS_TIMEOUT ? 0 : nats_report("receipts", status);
 }

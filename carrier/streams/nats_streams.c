@@ -15,9 +15,7 @@ enum {
     SHORTEST = 500, /* milliseconds to wait for what a stream answers, */
     LONGEST = 3500,
     SOON = 50,      /* for a consumer until another one is tried, and twice what an answer takes; then twice as long */
-    TRIES = 4,
-    LOOKS = 8,      /* between two looks at most, */
-    LIVELY = 1000   /* and 1 where a frame came in so many before: each further one is seen soon */
+    TRIES = 4
 };
 
 /* ---- What an answer says */
@@ -180,19 +178,6 @@ void nats_write_stream(const struct nats_carrier *c, unsigned stream, char text[
 
 /* ---- Questions that are waited for */
 
-natsStatus nats_await(const struct nats_carrier *c, natsSubscription *from, natsMsg **message, int wait)
-{
-    uint64_t began = milliseconds(), end = began + (uint64_t)wait;
-    unsigned pause = 1, longest = began < c->came + LIVELY ? 1 : LOOKS;
-    natsStatus status = natsSubscription_NextMsg(message, from, 0);
-    while (status == NATS_TIMEOUT && milliseconds() < end) {
-        pause_milliseconds(pause);
-        pause = pause < longest ? 2 * pause : longest;
-        status = natsSubscription_NextMsg(message, from, 0);
-    }
-    return status;
-}
-
 /* Asks. The number of the question is the last word of the subject to which its answer comes. */
 static natsStatus question(struct nats_carrier *c, const char *what, const char *stream, const char *text)
 {
@@ -213,7 +198,7 @@ static natsStatus await_answer(struct nats_carrier *c, unsigned long first, int 
     natsStatus status = NATS_OK;
     *number = 0;
     while (status == NATS_OK && *number < first) {
-        natsMsg_Destroy(*answer);
+        nats_drop(c, *answer);
         *answer = NULL;
         now = milliseconds();
         status = nats_await(c, c->replies, answer, now < end ? (int)(end - now) : 0);
@@ -254,7 +239,7 @@ natsStatus nats_ask_stream(struct nats_carrier *c, const char *name, struct nats
     note_asked(c, status, milliseconds() - began);
     if (status == NATS_OK)
         status = nats_read_stream(answer, it);
-    natsMsg_Destroy(answer);
+    nats_drop(c, answer);
     return status;
 }
 
@@ -276,12 +261,12 @@ static natsStatus try_consumer(struct nats_carrier *c, const char *stream, const
 }
 
 /* Ends those that were tried but for one, if one is there. Servers forget a consumer to which nobody listens. */
-static void end_others(struct nats_carrier *c, natsSubscription **tried, int count, int kept)
+static void end_others(natsSubscription **tried, int count, int kept)
 {
     int i;
     for (i = 0; i < count; i++)
         if (i != kept)
-            nats_leave(c, &tried[i]);
+            nats_leave(&tried[i]);
 }
 
 natsStatus nats_consume(struct nats_carrier *c, const char *stream, const char *how, int longer, natsSubscription **reader)
@@ -301,9 +286,9 @@ natsStatus nats_consume(struct nats_carrier *c, const char *stream, const char *
     if (status == NATS_OK && nats_says(answer, "\"error\":"))
         status = NATS_ERR;
     is_there = status == NATS_OK && number - first < (unsigned long)count;
-    end_others(c, tried, count, is_there ? (int)(number - first) : -1);
+    end_others(tried, count, is_there ? (int)(number - first) : -1);
     *reader = is_there ? tried[number - first] : NULL;
-    natsMsg_Destroy(answer);
+    nats_drop(c, answer);
     return is_there || status != NATS_OK ? status : NATS_ERR;
 }
 

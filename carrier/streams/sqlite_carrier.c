@@ -130,11 +130,10 @@ static int publish(struct carrier *base, unsigned shard, const char *session, ui
     return 0;
 }
 
-static int confirmed(struct carrier *base, struct confirmed *list, size_t room, int milliseconds)
+static int confirmed(struct carrier *base, struct confirmed *list, size_t room)
 {
     struct sqlite_carrier *c = (struct sqlite_carrier *)base;
     int count = 0;
-    (void)milliseconds;
     if (!c->is_committed && c->stored > 0) {
         int last = c->added.count;
         if (insert_rows(&c->added) != 0)
@@ -191,13 +190,12 @@ static int copy_row(struct sqlite_carrier *c, const struct statement *select, st
 }
 
 /* What stands after the reader now. */
-static int fetch(struct carrier *base, struct carried *list, size_t limit, int milliseconds)
+static int fetch(struct carrier *base, struct carried *list, size_t limit)
 {
     struct sqlite_carrier *c = (struct sqlite_carrier *)base;
     struct statement *select = &c->statements[SELECT];
     size_t used = 0;
     int count = 0, row = 0;
-    (void)milliseconds;
     bind_number(select, 1, c->shard);
     bind_number(select, 2, (sqlite3_int64)c->after);
     bind_number(select, 3, (sqlite3_int64)limit);
@@ -324,13 +322,19 @@ static int open_it(struct sqlite_carrier *c, const char *path)
     return c->incarnation > 0 ? 0 : -1;
 }
 
+static uint64_t not_due(struct carrier *base)
+{
+    (void)base;
+    return UINT64_MAX;
+}
+
 struct carrier *sqlite_carrier_open(const char *path)
 {
     struct sqlite_carrier *c = calloc(1, sizeof *c);
     if (c == NULL)
         return NULL;
     c->base = (struct carrier){ incarnation, make, publish, confirmed, seek, fetch, behind, acknowledge, receipts, forget,
-                                never, never, close_it, path };
+                                never, never, close_it, not_due, path, -1 };
     if (open_it(c, path) == 0)
         return &c->base;
     close_it(&c->base);

@@ -18,6 +18,7 @@ NOTHING = {
     "krbrelay_shard_free", "krbrelay_pause_begin", "krbrelay_pause_grow",
     "MHD_stop_daemon", "MHD_destroy_response", "sqlite3_result_int",
     "PQclear", "PQfinish", "PQconninfoFree", "PQsetNoticeProcessor",
+    "natsConnection_ProcessReadEvent", "natsConnection_ProcessWriteEvent",
     "natsMsg_Destroy", "natsSubscription_Destroy", "natsInbox_Destroy", "jsCtx_Destroy",
     "natsConnection_Destroy", "natsOptions_Destroy", "jsStreamInfo_Destroy",
     "jsMsgMetaData_Destroy", "nats_Sleep",

@@ -57,8 +57,11 @@ static int take_texts(struct bare *b)
 static int await_carried(struct bare *b, int sent)
 {
     int came = 0;
-    for (; sent > 0 && came >= 0 && !is_ending(); sent -= came)
-        came = b->carrier->confirmed(b->carrier, b->confirmed, TAKEN, SHORT);
+    for (; sent > 0 && came >= 0 && !is_ending(); sent -= came) {
+        came = b->carrier->confirmed(b->carrier, b->confirmed, TAKEN);
+        if (came == 0)
+            waiting_for(b->carrier->descriptor, milliseconds() + SHORT);
+    }
     return sent == 0 ? 0 : -1;
 }
 
@@ -90,7 +93,8 @@ static void await_list(struct bare *b)
 {
     while (b->list == 0 && !is_ending()) {
         (void)b->carrier->make(b->carrier, 0, &b->list); /* a fault is reported, and it is tried again */
-        (void)b->carrier->confirmed(b->carrier, b->confirmed, TAKEN, SHORT);
+        (void)b->carrier->confirmed(b->carrier, b->confirmed, TAKEN);
+        waiting_for(b->carrier->descriptor, milliseconds() + SHORT);
     }
 }
 
@@ -134,10 +138,10 @@ static int receive_all(struct bare *b)
         pause_milliseconds(SHORT);
     b->carrier->seek(b->carrier, 0, 0);
     while (count >= 0 && !is_ending()) {
-        count = b->carrier->fetch(b->carrier, b->frames, TAKEN, SHORT);
+        count = b->carrier->fetch(b->carrier, b->frames, TAKEN);
         if (count > 0 && store_frames(b, count) != 0)
             count = -1;
-        if (count == 0 && b->carrier->file != NULL)
+        if (count == 0)
             (void)waiting_until(&b->waiting, milliseconds() + LONG);
     }
     return count < 0 ? -1 : 0;
@@ -153,6 +157,7 @@ static int begin(struct bare *b, int sends, const char *where, const struct carr
         return -1;
     if (!sends) {
         b->store = store_open(where, 0);
+        waiting_hear(&b->waiting, b->carrier->descriptor);
         if (b->carrier->file != NULL)
             waiting_watch(&b->waiting, b->carrier->file);
         return b->store != NULL ? 0 : -1;

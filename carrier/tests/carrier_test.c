@@ -2,6 +2,8 @@
  * It needs shards 900 and 901 that are empty. */
 #include "carrier.h"
 #include "check.h"
+#include "clock.h"
+#include "waiting.h"
 #include "wrapped.h"
 
 #include <string.h>
@@ -47,6 +49,30 @@ static void fill(uint8_t *frame, unsigned shard, unsigned i)
         frame[at] = (uint8_t)(shard + i * 7 + at);
 }
 
+/* Waits, where something may come later. */
+static void await(const struct carrier *c, unsigned time)
+{
+    waiting_for(c->descriptor, milliseconds() + time);
+}
+
+static int confirmed_in(struct carrier *c, struct confirmed *list, size_t room)
+{
+    await(c, 100);
+    return c->confirmed(c, list, room);
+}
+
+/* What it fetches within some seconds. */
+static int fetched_in(struct carrier *c, struct carried *list, size_t room)
+{
+    int had = 0, tries;
+    for (tries = 0; had == 0 && tries < PATIENCE; tries++) {
+        had = c->fetch(c, list, room);
+        if (had == 0)
+            await(c, 100);
+    }
+    return had;
+}
+
 /* Answers come with confirmations. */
 static void await_shard(struct carrier *c, unsigned shard)
 {
@@ -54,7 +80,7 @@ static void await_shard(struct carrier *c, unsigned shard)
     uint64_t made = 0;
     int tries;
     for (tries = 0; tries < PATIENCE && c->make(c, shard, &made) != 0; tries++)
-        check(c->confirmed(c, list, 1, 100) == 0, "nothing is confirmed that wasn't published");
+        check(confirmed_in(c, list, 1) == 0, "nothing is confirmed that wasn't published");
     check(made > 0, "a shard is made");
 }
 
@@ -85,7 +111,7 @@ static void await_confirmed(struct carrier *c)
     static struct confirmed list[FRAMES];
     int had = 0, tries;
     for (tries = 0; had < FRAMES && tries < PATIENCE; tries++) {
-        int now = c->confirmed(c, list, FRAMES, 100);
+        int now = confirmed_in(c, list, FRAMES);
         if (now > 0) {
             note_confirmed(list, now);
             had += now;
@@ -111,12 +137,12 @@ static void read_from(struct carrier *reader, unsigned i, uint64_t offset)
     int at, had, tries;
     reader->seek(reader, shard, offset);
     for (tries = 0; i < FRAMES && tries < PATIENCE; tries++) {
-        had = reader->fetch(reader, list, 64, 100);
+        had = fetched_in(reader, list, 64);
         for (at = 0; at < had; at++, i += 2)
             check_fetched(&list[at], shard, i);
     }
     check(i >= FRAMES, "all are fetched");
-    check(reader->fetch(reader, list, 64, 100) == 0, "and no more");
+    check(reader->fetch(reader, list, 64) == 0, "and no more");
 }
 
 /* Each reader of a shard gets the same incarnation, and nothing stands after the end. */
@@ -137,15 +163,15 @@ static void check_out_of_memory(struct carrier *c, struct carrier *reader)
     struct confirmed of[1];
     struct carried list[1];
     reader->seek(reader, SHARD, 0);
-    check(reader->fetch(reader, list, 1, 10 * PATIENCE) == 1, "a frame, of a reader that has begun");
+    check(fetched_in(reader, list, 1) == 1, "a frame, of a reader that has begun");
     if (reader->file != NULL) {
-        check(c->publish(c, SHARD, "tom-7", 1, 1, frame, LONG) == 0 && c->confirmed(c, of, 1, 100) == 1, "a long frame");
+        check(c->publish(c, SHARD, "tom-7", 1, 1, frame, LONG) == 0 && c->confirmed(c, of, 1) == 1, "a long frame");
         reader->seek(reader, SHARD, of[0].offset - 1);
     }
     is_out_of_memory = 1;
-    check(reader->fetch(reader, list, 1, 100) == CARRIER_FAULT, "it has no memory");
+    check(reader->fetch(reader, list, 1) == CARRIER_FAULT, "it has no memory");
     is_out_of_memory = 0;
-    check(reader->fetch(reader, list, 1, 10 * PATIENCE) == 1, "and the next one has it");
+    check(fetched_in(reader, list, 1) == 1, "and the next one has it");
     check(reader->file == NULL || list[0].len == LONG, "the long frame");
 }
 

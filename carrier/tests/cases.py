@@ -91,6 +91,23 @@ def chosen(found, names):
     return [it for name, it in named.items() if not names or name in names]
 
 
+# ---- how often programs wait
+
+def wakes(process):
+    """How often its threads have waited."""
+    count = 0
+    for path in glob.glob(f"/proc/{process.pid}/task/*/status"):
+        with open(path, encoding="ascii") as file:
+            count += sum(int(line.split()[1]) for line in file if line.startswith("voluntary_ctxt_switches"))
+    return count
+
+
+def wakes_in(seconds, *processes):
+    before = [wakes(it) for it in processes]
+    time.sleep(seconds)
+    return [wakes(it) - count for it, count in zip(processes, before)]
+
+
 # ---- a case's files and processes
 
 class Place(errors.Ends):

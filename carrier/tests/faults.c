@@ -86,9 +86,9 @@ static int publish(struct carrier *c, unsigned shard, const char *session, uint3
     return real.publish(c, shard, session, tag, number, frame, len);
 }
 
-static int confirmed(struct carrier *c, struct confirmed *list, size_t room, int milliseconds)
+static int confirmed(struct carrier *c, struct confirmed *list, size_t room)
 {
-    int i, kept = 0, count = real.confirmed(c, list, room, milliseconds);
+    int i, kept = 0, count = real.confirmed(c, list, room);
     for (i = 0; i < count; i++)
         if (!happens())
             list[kept++] = list[i];

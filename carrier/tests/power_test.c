@@ -108,7 +108,7 @@ static void carry_one(struct carrier *carrier, uint64_t number)
     check(carrier->publish(carrier, SHARD, "tom-7", 0, number, (const uint8_t *)&number, sizeof number) == 0,
           "a frame is published");
     for (tries = 0; count == 0 && tries < 10; tries++)
-        count = carrier->confirmed(carrier, &confirmed, 1, 100);
+        count = carrier->confirmed(carrier, &confirmed, 1);
     check(count == 1 && confirmed.number == number, "and confirmed");
     tell(CONFIRMED, number, 0);
 }
@@ -227,7 +227,7 @@ static void find_carrier(void)
     int count;
     check(carrier != NULL && carrier->incarnation(carrier, SHARD, &incarnation, &end) == 0, "the carrier opens");
     carrier->seek(carrier, SHARD, 0);
-    count = carrier->fetch(carrier, list, TEXTS + 1, 0);
+    count = carrier->fetch(carrier, list, TEXTS + 1);
     check(count >= 0 && (uint64_t)count >= last_told(CONFIRMED), "what was confirmed is there");
     for (i = 0; i < (uint64_t)count; i++) {
         uint64_t number = i + 1;

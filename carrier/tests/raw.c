@@ -3,6 +3,7 @@
  *     raw --carrier WHERE --replicas N --shard N --frames N --bytes N */
 #include "carrier.h"
 #include "clock.h"
+#include "waiting.h"
 
 #include <stdio.h>
 #include <stdlib.h>
@@ -20,7 +21,9 @@ static double turns_all(struct carrier *c, unsigned shard, int frames, size_t le
         while (sent < frames && sent < batch && sent - confirmed < WINDOW
                && c->publish(c, shard, "raw", 0, (uint64_t)sent, frame, len) == 0)
             sent++;
-        now = c->confirmed(c, list, WINDOW, sent - confirmed < WINDOW ? 0 : WAIT);
+        if (sent - confirmed >= WINDOW || sent == frames)
+            waiting_for(c->descriptor, milliseconds() + WAIT);
+        now = c->confirmed(c, list, WINDOW);
         confirmed += now > 0 ? now : 0;
     }
     return frames / ((double)(nanoseconds() - began) / 1e9);
@@ -33,7 +36,9 @@ static double read_all(struct carrier *c, unsigned shard, int frames)
     int had = 0;
     c->seek(c, shard, 0);
     while (had < frames) {
-        int now = c->fetch(c, list, TAKEN, WAIT);
+        int now = c->fetch(c, list, TAKEN);
+        if (now <= 0)
+            waiting_for(c->descriptor, milliseconds() + WAIT);
         had += now > 0 ? now : 0;
     }
     return frames / ((double)(nanoseconds() - began) / 1e9);

@@ -7,6 +7,7 @@ import re
 import signal
 import socket
 import sqlite3
+import statistics
 import subprocess
 import threading
 import time
@@ -405,6 +406,24 @@ def consumer_gone(place):
     for name in place.request("CONSUMER.NAMES.KRB_0")["consumers"]:
         place.request(f"CONSUMER.DELETE.KRB_0.{name}")
     place.pass_on(texts("ann", 10, 40))
+
+
+@case("eight shards over NATS with nothing to do", {"ann": 8} | {f"s{it}": 1 for it in range(1, 8)}, 40,
+      (ANN, *(ANN.replace("ann 0", f"s{it} {it}").replace("11", f"{it}2") for it in range(1, 8))), "0-7", nats="")
+def idle(place):
+    """A sender wakes at most twice a second, and so does each reader; and a text wakes both ends at once."""
+    for it in range(1, 8):
+        place.put(texts(f"s{it}", 0, 1))
+    both, most, seconds, took = start_both(place, 1), (2, 1 + 2 * 8), 5, []
+    place.expect(lambda: all(count <= of * seconds for count, of in zip(cases.wakes_in(seconds, *both), most)),
+                 lambda: f"they wake {cases.wakes_in(seconds, *both)} times in {seconds} s", 15)
+    for number in range(1, 8):
+        time.sleep(1.4)
+        began = time.monotonic()
+        place.put(texts("ann", number, number + 1))
+        place.wait(lambda: place.count("store", "effect") > 7 + number, 5)
+        took.append(time.monotonic() - began)
+    place.require(statistics.median(took) < 0.3, f"texts take {took} s")
 
 
 @case("a session gets another shard", {"ann": 110, "tom": 5}, 15, (ANN, TOM_1), "0,1", nats="")

@@ -129,7 +129,7 @@ static void publish_as(struct carrier *carrier, const char *name, uint64_t numbe
     int tries;
     check(carrier->publish(carrier, SHARD, name, 0, number, frame, len) == 0, "a frame is published");
     for (tries = 0; tries < STEPS; tries++)
-        if (carrier->confirmed(carrier, list, 1, 100) == 1)
+        if (carrier->confirmed(carrier, list, 1) == 1)
             return;
     check(0, "it is confirmed");
 }

@@ -1,13 +1,13 @@
 """Programs that have nothing to do wake rarely, with many sessions that each had a text, over SQLite; and
 each text wakes them."""
 import contextlib
-import os
 import sqlite3
 import statistics
 import subprocess
 import time
 
 import pytest
+from cases import wakes_in
 from test_effects import both_programs, write_private
 
 SESSIONS, SHARDS = 10_000, 8
@@ -69,29 +69,13 @@ def put(folder, names):
                          ((name,) for name in names))
 
 
-def wakes(process):
-    """How often its threads have waited."""
-    count = 0
-    for thread in os.listdir(f"/proc/{process.pid}/task"):
-        with open(f"/proc/{process.pid}/task/{thread}/status", encoding="ascii") as file:
-            count += sum(int(line.split()[1]) for line in file
-                         if line.startswith("voluntary_ctxt_switches"))
-    return count
-
-
-def wakes_of_a_window(processes):
-    before = [wakes(it) for it in processes]
-    time.sleep(WINDOW)
-    return [wakes(it) - count for it, count in zip(processes, before)]
-
-
 def test_idle_programs_wake_rarely(running):
     folder, *processes = running
     put(folder, (f"s{i}" for i in range(SESSIONS)))
     await_so(lambda: ask(folder / "outbox.db", UNDONE) == 0)
     assert ask(folder / "store.db", EFFECTS) == SESSIONS
     await_so(lambda: all(count <= most * WINDOW
-                         for count, most in zip(wakes_of_a_window(processes), MOST_A_SECOND)))
+                         for count, most in zip(wakes_in(WINDOW, *processes), MOST_A_SECOND)))
 
 
 def test_each_text_wakes_both_ends(running):

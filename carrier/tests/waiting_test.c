@@ -72,6 +72,26 @@ static void test_wakes(void)
     waiting_end(&it);
 }
 
+/* A descriptor wakes as long as it is ready, and leads to no further look. */
+static void test_descriptor(void)
+{
+    struct waiting it;
+    uint64_t end = milliseconds() + LONG;
+    int ends[2];
+    waiting_begin(&it, 1);
+    check(pipe(ends) == 0 && write(ends[1], "x", 1) == 1, "a pipe that is ready");
+    lasts(&it, SHORT);
+    waiting_hear(&it, ends[0]);
+    check(is_cut_short(&it) == 0 && is_cut_short(&it) == 0, "it ends each wait");
+    lasts(&it, BRIEF);
+    waiting_for(ends[0], end);
+    check(milliseconds() < end, "and one within a call");
+    waiting_hear(&it, -1);
+    lasts(&it, SHORT);
+    check(close(ends[0]) == 0 && close(ends[1]) == 0, "the pipe is closed");
+    waiting_end(&it);
+}
+
 /* One that passes on what comes is woken once for it. */
 static void test_file(const char *path)
 {
@@ -142,6 +162,7 @@ int main(int count, char **words)
     check(symlink("database", link_of_it) == 0, "a link leads to it");
     test_time();
     test_wakes();
+    test_descriptor();
     test_file(database);
     test_file(link_of_it);
     test_untold();
