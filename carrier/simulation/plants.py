@@ -37,7 +37,7 @@ for (int i = 1; i < count; i++)
         s->frames[i - 1] = s->frames[i];
     count -= count > 1;
     s->fetched =""")),
-    "a session waits on after the one before it is done": ("purged+killed+tickets+bursts+skewed", 9000156, "LATE",
+    "a session waits on after the one before it is done": ("tickets+kdc+skewed", 38, "LATE",
         ("sender_receipts.c", "it->end.done == it->end.progress.next)", "it->end.done > it->end.progress.next)")),
     "the session before is looked for once": ("tickets+keys", 17, "STANDS",
         ("shard_load.c", "|| it->drafted.number == it->of.first ?", "?")),
