@@ -93,14 +93,16 @@ static enum heard hear_receipt(struct sender *s, struct sending *it, const uint8
 }
 
 /* The session after this one in its stream may take effect now: its pauses begin anew. They have grown, since what came
- * before its turn was refused, and else each session of a chain would wait for a minute. */
+ * before its turn was refused, and else each session of a chain would wait for a minute. One of which this transaction has
+ * sealed texts goes on as it is. */
 static void wake_next(struct sender *s, const struct sending *it)
 {
     size_t i;
     for (i = 0; i < s->all.count; i++) {
         struct sending *next = s->all.at[i];
-        if (next->begun != NULL && next->stopped_at != 1 && strcmp(next->begun->opened.before, it->of.name) == 0)
-            (void)sender_load(s, next); /* else it goes on as it is */
+        if (next->begun != NULL && next->stopped_at != 1 && !next->is_touched
+            && strcmp(next->begun->opened.before, it->of.name) == 0)
+            (void)sender_load(s, next); /* else it goes on as it is, too */
     }
 }
 

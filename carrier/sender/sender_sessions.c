@@ -95,10 +95,12 @@ static enum krbrelay_answer load_end(struct sender *s, const struct sending *it)
 
 int sender_load(struct sender *s, struct sending *it)
 {
-    struct outbox_progress *kept = &it->kept;
+    struct outbox_progress row;
+    const struct outbox_progress *kept = &it->kept;
     enum krbrelay_answer answer;
-    if (outbox_load(&s->outbox, &it->of, kept) != 0)
-        return -1;
+    if (outbox_load(&s->outbox, &it->of, &row) != 0)
+        return -1; /* what is known of it stays */
+    it->kept = row;
     answer = load_end(s, it);
     if (answer == KRBRELAY_MEMORY)
         log_system("out_of_memory", "sender");
