@@ -16,7 +16,7 @@
 
 enum { PATIENCE = DATABASE_PATIENCE, RETRY = 20 };
 
-static int report(sqlite3 *db, const char *what)
+static enum answer report(sqlite3 *db, const char *what)
 {
     const char *path = sqlite3_db_filename(db, "main");
     const char *name = path != NULL && *path != 0 ? path : "a database in memory";
@@ -28,13 +28,13 @@ static int report(sqlite3 *db, const char *what)
     else
         log_fact(LEVEL_ERROR, "database_fault", field_text("file", name),
                  field_text("statement", what), field_text("text", sqlite3_errmsg(db)));
-    return -1;
+    return ANSWER_FAULT;
 }
 
 /* With EXTRA also the folder is synced where the journal is deleted by which a new file becomes one with a
  * WAL. Else the journal may be there again after a loss of power, and takes back what was committed since.
  * If another process does the same at the same time, SQLite doesn't wait here by itself. */
-static int set_journal(sqlite3 *db)
+static enum answer set_journal(sqlite3 *db)
 {
     static const char sql[] = "PRAGMA synchronous = EXTRA; PRAGMA journal_mode = WAL;"
                               " PRAGMA wal_autocheckpoint = 4000; PRAGMA cache_size = -16000";
@@ -44,18 +44,18 @@ static int set_journal(sqlite3 *db)
         if (answer == SQLITE_BUSY)
             pause_milliseconds(RETRY);
     }
-    return answer == SQLITE_OK ? 0 : report(db, sql);
+    return answer == SQLITE_OK ? ANSWER_DONE : report(db, sql);
 }
 
 /* In one transaction, so that two processes may make the tables at once. */
-static int make_tables(sqlite3 *db, const char *tables)
+static enum answer make_tables(sqlite3 *db, const char *tables)
 {
-    if (begin_writing(db) != 0)
-        return -1;
-    if (run(db, tables) == 0 && run(db, "COMMIT") == 0)
-        return 0;
+    if (begin_writing(db) != ANSWER_DONE)
+        return ANSWER_FAULT;
+    if (run(db, tables) == ANSWER_DONE && run(db, "COMMIT") == ANSWER_DONE)
+        return ANSWER_DONE;
     roll_back(db);
-    return -1;
+    return ANSWER_FAULT;
 }
 
 /* Waits for other processes, unless this one is to end: at first for a moment, as for what another one syncs. */
@@ -91,44 +91,45 @@ sqlite3 *open_database(const char *path, const char *tables)
         close_database(db);
         return NULL;
     }
-    if (sqlite3_busy_handler(db, wait_for_others, NULL) == SQLITE_OK && set_journal(db) == 0
-        && make_tables(db, tables) == 0)
+    if (sqlite3_busy_handler(db, wait_for_others, NULL) == SQLITE_OK && set_journal(db) == ANSWER_DONE
+        && make_tables(db, tables) == ANSWER_DONE)
         return db;
     close_database(db);
     return NULL;
 }
 
-static int add_column(sqlite3 *db, const char *table, const char *column)
+static enum answer add_column(sqlite3 *db, const char *table, const char *column)
 {
     char sql[256];
     struct statement select = { NULL, 0 };
-    int len = (int)strcspn(column, " "), has = -1;
+    int len = (int)strcspn(column, " ");
+    enum answer has = ANSWER_FAULT;
     write_whole(sql, sizeof sql, "SELECT 1 FROM pragma_table_info('%s') WHERE name = '%.*s'",
                 table, len, column);
-    if (prepare(db, &select, sql) == 0)
+    if (prepare(db, &select, sql) == ANSWER_DONE)
         has = step_row(&select);
     finalize(&select, 1);
-    if (has != 0)
-        return has > 0 ? 0 : -1;
+    if (has != ANSWER_DONE)
+        return has == ANSWER_FOUND ? ANSWER_DONE : ANSWER_FAULT;
     write_whole(sql, sizeof sql, "ALTER TABLE %s ADD COLUMN %s", table, column);
     return run(db, sql);
 }
 
-int add_columns(sqlite3 *db, const char *const columns[][2], size_t count)
+enum answer add_columns(sqlite3 *db, const char *const columns[][2], size_t count)
 {
     size_t i;
     for (i = 0; i < count; i++)
-        if (add_column(db, columns[i][0], columns[i][1]) != 0)
-            return -1;
-    return 0;
+        if (add_column(db, columns[i][0], columns[i][1]) != ANSWER_DONE)
+            return ANSWER_FAULT;
+    return ANSWER_DONE;
 }
 
-int run(sqlite3 *db, const char *sql)
+enum answer run(sqlite3 *db, const char *sql)
 {
-    return sqlite3_exec(db, sql, NULL, NULL, NULL) == SQLITE_OK ? 0 : report(db, sql);
+    return sqlite3_exec(db, sql, NULL, NULL, NULL) == SQLITE_OK ? ANSWER_DONE : report(db, sql);
 }
 
-int begin_writing(sqlite3 *db)
+enum answer begin_writing(sqlite3 *db)
 {
     return run(db, "BEGIN IMMEDIATE");
 }
@@ -141,19 +142,19 @@ void roll_back(sqlite3 *db)
 
 /* ---- Statements */
 
-int prepare(sqlite3 *db, struct statement *statement, const char *sql)
+enum answer prepare(sqlite3 *db, struct statement *statement, const char *sql)
 {
     statement->is_unbound = 0;
-    return sqlite3_prepare_v2(db, sql, -1, &statement->at, NULL) == SQLITE_OK ? 0 : report(db, sql);
+    return sqlite3_prepare_v2(db, sql, -1, &statement->at, NULL) == SQLITE_OK ? ANSWER_DONE : report(db, sql);
 }
 
-int prepare_all(sqlite3 *db, struct statement *statements, const char *const *sql, int count)
+enum answer prepare_all(sqlite3 *db, struct statement *statements, const char *const *sql, int count)
 {
     int i;
     for (i = 0; i < count; i++)
-        if (prepare(db, &statements[i], sql[i]) != 0)
-            return -1;
-    return 0;
+        if (prepare(db, &statements[i], sql[i]) != ANSWER_DONE)
+            return ANSWER_FAULT;
+    return ANSWER_DONE;
 }
 
 /* What a call that gives a place its value answered. */
@@ -197,32 +198,33 @@ void bind_bytes(struct statement *statement, int place, const void *bytes, size_
     bind_blob(statement, place, bytes, len, SQLITE_STATIC);
 }
 
-static int report_statement(const struct statement *statement)
+static enum answer report_statement(const struct statement *statement)
 {
     return report(sqlite3_db_handle(statement->at), sqlite3_sql(statement->at));
 }
 
-int step_row(struct statement *statement)
+enum answer step_row(struct statement *statement)
 {
     int answer;
     if (statement->is_unbound)
         return report_statement(statement);
     answer = sqlite3_step(statement->at);
     if (answer == SQLITE_ROW)
-        return 1;
-    return answer == SQLITE_DONE ? 0 : report_statement(statement);
+        return ANSWER_FOUND;
+    return answer == SQLITE_DONE ? ANSWER_DONE : report_statement(statement);
 }
 
-int check_columns(const struct statement *statement)
+enum answer check_columns(const struct statement *statement)
 {
-    return sqlite3_errcode(sqlite3_db_handle(statement->at)) == SQLITE_NOMEM ? report_statement(statement) : 0;
+    return sqlite3_errcode(sqlite3_db_handle(statement->at)) == SQLITE_NOMEM
+           ? report_statement(statement) : ANSWER_DONE;
 }
 
-int step_once(struct statement *statement)
+enum answer step_once(struct statement *statement)
 {
-    int answer = step_row(statement);
+    enum answer answer = step_row(statement);
     end_rows(statement);
-    return answer >= 0 ? 0 : -1;
+    return answer != ANSWER_FAULT ? ANSWER_DONE : ANSWER_FAULT;
 }
 
 void end_rows(struct statement *statement)
@@ -235,7 +237,7 @@ void end_rows(struct statement *statement)
 
 /* As many SELECTs as rows at most, of which so many are run as there are rows. Where a row is refused, those before it
  * stay, since the transaction is given up: so SQLite keeps no copy of each page that the statement changes. */
-int prepare_rows(sqlite3 *db, struct rows *rows, const char *sql)
+enum answer prepare_rows(sqlite3 *db, struct rows *rows, const char *sql)
 {
     static const char places[] = "?,?,?,?,?,?,?,?"; /* of the longest row */
     const char *values = strstr(sql, "VALUES "), *at = values;
@@ -269,16 +271,16 @@ void bind_name(struct rows *rows, int place, const char *name)
     bind_words(&rows->all, place, name, SQLITE_TRANSIENT);
 }
 
-int add_row(struct rows *rows)
+enum answer add_row(struct rows *rows)
 {
-    return ++rows->count == ROWS || rows->size >= ROW_BYTES ? insert_rows(rows) : 0;
+    return ++rows->count == ROWS || rows->size >= ROW_BYTES ? insert_rows(rows) : ANSWER_DONE;
 }
 
-int insert_rows(struct rows *rows)
+enum answer insert_rows(struct rows *rows)
 {
-    int answer;
+    enum answer answer;
     if (rows->count == 0)
-        return 0;
+        return ANSWER_DONE;
     bind_number(&rows->all, ROWS * rows->places + 1, rows->count);
     answer = step_once(&rows->all);
     rows->count = 0;

@@ -30,7 +30,7 @@ const char *const effect_columns[][2] = {
 };
 const size_t effect_column_count = sizeof effect_columns / sizeof *effect_columns;
 
-int take_effect(struct store *store, const struct arrived *it)
+enum answer take_effect(struct store *store, const struct arrived *it)
 {
     const struct value values[] = { text_value(it->session), number_value(it->number), number_value(it->part),
                                     bytes_value(it->text, it->len), text_value(it->client), text_value(it->stream) };

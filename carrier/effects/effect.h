@@ -17,9 +17,9 @@ struct arrived {
 
 /* The effect of one text. It is called within the transaction that moves the session's number and
  * the shard's offset: what it asks of the store takes effect with them, once, or not at all. What
- * it does elsewhere may be done twice. 0, or -1 for the transaction to be given up and tried
- * again. */
-int take_effect(struct store *store, const struct arrived *it);
+ * it does elsewhere may be done twice. ANSWER_DONE; after any other answer the transaction
+ * is given up and tried again. */
+enum answer take_effect(struct store *store, const struct arrived *it);
 
 /* Its tables, unless they exist. Those of PostgreSQL aren't altered where all is there, since that would lock
  * them against the transactions of other receivers. */

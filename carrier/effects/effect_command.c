@@ -63,14 +63,14 @@ static void end_child(void *given)
     free(child);
 }
 
-int command_choose(const char *words)
+enum answer command_choose(const char *words)
 {
     command = words;
     if (*words == 0) {
         log_fact(LEVEL_ERROR, "effect_refused", field_text("text", "there is no command"));
-        return -1;
+        return ANSWER_FAULT;
     }
-    return pthread_key_create(&of_thread, end_child) == 0 ? 0 : -1;
+    return pthread_key_create(&of_thread, end_child) == 0 ? ANSWER_DONE : ANSWER_FAULT;
 }
 
 /* ---- The command */
@@ -126,12 +126,12 @@ static struct child *running(void)
     return child->pid > 0 || start(child) == 0 ? child : NULL;
 }
 
-static enum effect_answer fail(struct child *child, const char *why)
+static enum answer fail(struct child *child, const char *why)
 {
     log_fact(LEVEL_ERROR, "command_failed", field_text("text", why));
     (void)pthread_setspecific(of_thread, NULL); /* this thread has set it before, so its room is there */
     end_child(child);
-    return EFFECT_LATER;
+    return ANSWER_LATER;
 }
 
 /* ---- A line for it */
@@ -197,24 +197,24 @@ static int await(int socket, short what)
     return -1;
 }
 
-static int send_all(int socket, const char *line, size_t len)
+static enum answer send_all(int socket, const char *line, size_t len)
 {
     size_t sent = 0;
     while (sent < len) {
         ssize_t more = await(socket, POLLOUT) == 0
                            ? send(socket, line + sent, len - sent, MSG_NOSIGNAL | MSG_DONTWAIT) : -1;
         if (more < 0 && errno != EAGAIN && errno != EINTR)
-            return -1;
+            return ANSWER_FAULT;
         if (more < 0 && is_ending())
-            return -1;
+            return ANSWER_FAULT;
         sent += more > 0 ? (size_t)more : 0;
     }
-    return 0;
+    return ANSWER_DONE;
 }
 
 /* Reads the answer without its line feed, which stays where it is cut since it is longer than its room: 0, or -1. What
  * comes after the line feed is no answer to this text. */
-static int read_answer(int socket, char answer[ANSWER])
+static enum answer read_answer(int socket, char answer[ANSWER])
 {
     char part[ANSWER];
     size_t len = 0, all;
@@ -223,19 +223,19 @@ static int read_answer(int socket, char answer[ANSWER])
         const char *end = more > 0 ? memchr(part, '\n', (size_t)more) : NULL;
         size_t kept = end != NULL ? (size_t)(end - part) : more > 0 ? (size_t)more : 0;
         if (more <= 0)
-            return -1;
+            return ANSWER_FAULT;
         kept = kept < ANSWER - 1 - len ? kept : ANSWER - 1 - len;
         memcpy(answer + len, part, kept);
         len += kept;
         answer[len] = 0;
         if (end != NULL)
-            return end == part + more - 1 ? 0 : -1;
+            return end == part + more - 1 ? ANSWER_DONE : ANSWER_FAULT;
         all += (size_t)more;
     }
-    return -1;
+    return ANSWER_FAULT;
 }
 
-enum effect_answer command_take(struct store *store, const struct arrived *it, char *reason)
+enum answer command_take(struct store *store, const struct arrived *it, char *reason)
 {
     struct child *child = running();
     char answer[ANSWER], *line;
@@ -243,20 +243,20 @@ enum effect_answer command_take(struct store *store, const struct arrived *it, c
     int is_passed;
     (void)store;
     if (child == NULL)
-        return EFFECT_LATER;
+        return ANSWER_LATER;
     line = line_of(it, &len);
-    is_passed = line != NULL && send_all(child->socket, line, len) == 0;
+    is_passed = line != NULL && send_all(child->socket, line, len) == ANSWER_DONE;
     if (line != NULL)
         explicit_bzero(line, len);
     free(line);
-    if (!is_passed || read_answer(child->socket, answer) != 0)
+    if (!is_passed || read_answer(child->socket, answer) != ANSWER_DONE)
         return fail(child, "it has ended, or answers nothing: it is started again");
     if (strcmp(answer, "ok") == 0)
-        return EFFECT_DONE;
+        return ANSWER_DONE;
     if (strncmp(answer, "refuse", 6) == 0 && (answer[6] == ' ' || answer[6] == 0)) {
         const char *told = answer[6] == ' ' ? answer + 7 : "";
         (void)snprintf(reason, EFFECT_REASON, "%.*s", EFFECT_REASON - 1, told); /* a long one is cut */
-        return EFFECT_REFUSED;
+        return ANSWER_REFUSED;
     }
-    return strcmp(answer, "again") == 0 ? EFFECT_LATER : fail(child, "it answers neither ok, refuse nor again");
+    return strcmp(answer, "again") == 0 ? ANSWER_LATER : fail(child, "it answers neither ok, refuse nor again");
 }

@@ -18,10 +18,10 @@ static struct {
     unsigned count;
 } statement;
 
-static int refuse(const char *what, const char *at)
+static enum answer refuse(const char *what, const char *at)
 {
     log_fact(LEVEL_ERROR, "effect_refused", field_text("at", at), field_text("text", what));
-    return -1;
+    return ANSWER_FAULT;
 }
 
 /* How long what begins here is, if it is something that is left as it is: quotes, a comment, or a cast. */
@@ -69,7 +69,7 @@ static size_t write_name(char **to, const char *at)
     size_t len = strspn(at + 1, "abcdefghijklmnopqrstuvwxyzABCDEFGHIJKLMNOPQRSTUVWXYZ_0123456789");
     int name = name_at(at + 1, len);
     if (name < 0) {
-        refuse("the names are :session, :client, :stream, :number, :part and :text", at);
+        (void)refuse("the names are :session, :client, :stream, :number, :part and :text", at);
         return 0;
     }
     *to += sprintf(*to, "$%u", place_of((enum name)name));
@@ -82,13 +82,13 @@ static int is_end(const char *at)
     return at[strspn(at, " \t\r\n")] == 0;
 }
 
-int statement_choose(const char *text)
+enum answer statement_choose(const char *text)
 {
     const char *at = text;
     char *to = malloc(strlen(text) + 1); /* a place is shorter than its name */
     statement.sql = to;
     if (to == NULL)
-        return -1;
+        return ANSWER_FAULT;
     while (*at != 0) {
         size_t kept = kept_len(at);
         if (kept == 0 && *at == ';' && !is_end(at + 1))
@@ -98,7 +98,7 @@ int statement_choose(const char *text)
         if (kept == 0 && *at == ':' && (isalpha((unsigned char)at[1]) || at[1] == '_')) {
             size_t len = write_name(&to, at);
             if (len == 0)
-                return -1;
+                return ANSWER_FAULT;
             at += len;
             continue;
         }
@@ -108,7 +108,7 @@ int statement_choose(const char *text)
         at += kept;
     }
     *to = 0;
-    return is_end(text) ? refuse("there is no statement", text) : 0;
+    return is_end(text) ? refuse("there is no statement", text) : ANSWER_DONE;
 }
 
 static struct value value_of(enum name name, const struct arrived *it)
@@ -119,12 +119,12 @@ static struct value value_of(enum name name, const struct arrived *it)
     return name == TEXT ? bytes_value(it->text, it->len) : text_value(text);
 }
 
-enum effect_answer statement_take(struct store *store, const struct arrived *it, char *reason)
+enum answer statement_take(struct store *store, const struct arrived *it, char *reason)
 {
     struct value values[NAMES];
     unsigned i;
     (void)reason;
     for (i = 0; i < statement.count; i++)
         values[i] = value_of(statement.values[i], it);
-    return store_run(store, statement.sql, values, statement.count) == 0 ? EFFECT_DONE : EFFECT_FAULT;
+    return store_run(store, statement.sql, values, statement.count) == ANSWER_DONE ? ANSWER_DONE : ANSWER_FAULT;
 }

@@ -24,28 +24,28 @@ static struct {
 
 /* ---- Which effect */
 
-static enum effect_answer take_row(struct store *store, const struct arrived *it, char *reason)
+static enum answer take_row(struct store *store, const struct arrived *it, char *reason)
 {
     (void)reason;
-    return take_effect(store, it) == 0 ? EFFECT_DONE : EFFECT_FAULT;
+    return take_effect(store, it) == ANSWER_DONE ? ANSWER_DONE : ANSWER_FAULT;
 }
 
-static enum effect_answer take_by_object(struct store *store, const struct arrived *it, char *reason)
+static enum answer take_by_object(struct store *store, const struct arrived *it, char *reason)
 {
     (void)reason;
-    return chosen.of_object(store, it) == 0 ? EFFECT_DONE : EFFECT_FAULT;
+    return chosen.of_object(store, it) == 0 ? ANSWER_DONE : ANSWER_FAULT;
 }
 
-static int object_choose(const char *path)
+static enum answer object_choose(const char *path)
 {
     void *object = dlopen(path, RTLD_NOW | RTLD_LOCAL);
     void *found = object != NULL ? dlsym(object, "take_effect") : NULL;
     if (found == NULL) {
         log_fact(LEVEL_ERROR, "effect_not_loaded", field_text("file", path), field_text("text", dlerror()));
-        return -1;
+        return ANSWER_FAULT;
     }
     memcpy(&chosen.of_object, &found, sizeof found);
-    return 0;
+    return ANSWER_DONE;
 }
 
 /* Whether the word begins so; then `rest` is what follows. */
@@ -64,7 +64,7 @@ void effects_check_option(const char *program, const char *word)
         end_with(2, "%s: --effect: this is no effect: name sql:STATEMENT, object:FILE or command:WORDS\n", program);
 }
 
-static int choose(const char *word)
+static enum answer choose(const char *word)
 {
     const char *rest = NULL;
     if (begins(word, "sql:", &rest)) {
@@ -81,11 +81,11 @@ static int choose(const char *word)
     return command_choose(rest);
 }
 
-int effects_choose(const char *word, unsigned tries)
+enum answer effects_choose(const char *word, unsigned tries)
 {
     chosen.call = take_row;
     chosen.tries = tries;
-    return word != NULL ? choose(word) : 0;
+    return word != NULL ? choose(word) : ANSWER_DONE;
 }
 
 int effects_are_outside(void)
@@ -130,23 +130,23 @@ int effects_are_refused(const struct refusals *of, const struct arrived *it)
     return found != NULL && found->times >= chosen.tries;
 }
 
-int effects_put_aside(struct store *store, const struct refusals *of, const struct arrived *it)
+enum answer effects_put_aside(struct store *store, const struct refusals *of, const struct arrived *it)
 {
     const char *reason = find(of, it)->reason;
     const struct value values[] = { text_value(it->session), number_value(it->number), number_value(it->part),
                                     bytes_value(it->text, it->len), text_value(it->client), text_value(it->stream),
                                     text_value(reason) };
     if (store_run(store, "INSERT INTO aside (session, number, part, text, client, stream, reason)"
-                         " VALUES ($1, $2, $3, $4, $5, $6, $7)", values, 7) != 0 || store->settle(store) != 0)
-        return -1;
+                         " VALUES ($1, $2, $3, $4, $5, $6, $7)", values, 7) != ANSWER_DONE || store->settle(store) != ANSWER_DONE)
+        return ANSWER_FAULT;
     log_fact(LEVEL_WARNING, "text_put_aside", field_text("session", it->session), field_number("number", it->number),
              field_number("part", it->part),
              field_text("text", "the table `aside` has it, with the reason, once the transaction is stored"));
-    return 0;
+    return ANSWER_DONE;
 }
 
 /* Notes that a text was refused. What it says may have parts of a text: a store's columns take it as UTF-8 alone. */
-static enum effect_answer note(struct refusals *of, const struct arrived *it, const char *reason)
+static enum answer note(struct refusals *of, const struct arrived *it, const char *reason)
 {
     struct refused *refused = find_or_add(of, it);
     refused->times++;
@@ -154,46 +154,47 @@ static enum effect_answer note(struct refusals *of, const struct arrived *it, co
     make_utf8(refused->reason);
     log_fact(LEVEL_WARNING, "text_refused", field_text("session", it->session), field_number("number", it->number),
              field_number("part", it->part), field_number("times", refused->times));
-    return EFFECT_REFUSED;
+    return ANSWER_REFUSED;
 }
 
 /* The effect of a text in a store: all that was asked before it is waited for, and then its own, so that a fault is
  * known to be of it. */
-static enum effect_answer take_settled(struct store *store, const struct arrived *it, char *reason)
+static enum answer take_settled(struct store *store, const struct arrived *it, char *reason)
 {
-    enum effect_answer answer = store->settle(store) == 0 ? EFFECT_DONE : EFFECT_FAULT;
+    enum answer answer = store->settle(store) == ANSWER_DONE ? ANSWER_DONE : ANSWER_FAULT;
     const char *why;
-    if (answer == EFFECT_DONE)
+    if (answer == ANSWER_DONE)
         answer = chosen.call(store, it, reason);
-    if (answer == EFFECT_DONE && store->settle(store) != 0)
-        answer = EFFECT_FAULT;
-    why = answer == EFFECT_FAULT ? store->refusal(store) : NULL;
+    if (answer == ANSWER_DONE && store->settle(store) != ANSWER_DONE)
+        answer = ANSWER_FAULT;
+    why = answer == ANSWER_FAULT ? store->refusal(store) : NULL;
     if (why == NULL)
         return answer;
     copy_cut(reason, EFFECT_REASON, why);
-    return EFFECT_REFUSED;
+    return ANSWER_REFUSED;
 }
 
 /* The log names it, since its shard waits for it. */
-static enum effect_answer tell_later(const struct arrived *it, enum effect_answer answer)
+static enum answer tell_later(const struct arrived *it, enum answer answer)
 {
     log_fact(LEVEL_WARNING, "text_waits", field_text("session", it->session), field_number("number", it->number),
              field_number("part", it->part),
-             field_text("text", answer == EFFECT_LATER ? "its effect can't be had now: it is tried again, and its shard waits"
+             field_text("text", answer == ANSWER_LATER
+                     ? "its effect can't be had now: it is tried again, and its shard waits"
                                                        : "the store has a fault at it: it is tried again, and its shard waits"));
     return answer;
 }
 
-enum effect_answer effects_take(struct store *store, const struct arrived *it, int is_alone, struct refusals **of)
+enum answer effects_take(struct store *store, const struct arrived *it, int is_alone, struct refusals **of)
 {
     char reason[EFFECT_REASON] = "";
-    enum effect_answer answer;
+    enum answer answer;
     if (!is_alone && !effects_are_outside())
         return chosen.call(store, it, reason);
     if (*of == NULL && (*of = calloc(1, sizeof **of)) == NULL)
-        return EFFECT_FAULT;
+        return ANSWER_FAULT;
     answer = effects_are_outside() ? chosen.call(store, it, reason) : take_settled(store, it, reason);
-    if (answer == EFFECT_REFUSED)
+    if (answer == ANSWER_REFUSED)
         return note(*of, it, reason);
-    return answer == EFFECT_DONE ? answer : tell_later(it, answer);
+    return answer == ANSWER_DONE ? answer : tell_later(it, answer);
 }

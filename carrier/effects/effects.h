@@ -19,8 +19,8 @@
 /* Ends the program with status 2 and a message unless the word is of that form, or NULL. */
 void effects_check_option(const char *program, const char *word);
 
-/* Chooses it, before any shard is served; NULL is the effect of effect.c. 0, or -1 with a report. */
-int effects_choose(const char *word, unsigned tries);
+/* Chooses it, before any shard is served; NULL is the effect of effect.c. */
+enum answer effects_choose(const char *word, unsigned tries);
 
 /* Whether it is a command, whose work no rollback undoes; whether texts may be put aside. */
 int effects_are_outside(void);
@@ -28,7 +28,6 @@ int effects_may_put_aside(void);
 
 /* The outcome of the effect of one text: it is done, or asked for; the text is refused; it can't be had now; the store has
  * a fault, as where it refuses values of a text that wasn't taken alone. */
-enum effect_answer { EFFECT_FAULT = -1, EFFECT_DONE = 0, EFFECT_REFUSED = 1, EFFECT_LATER = 2 };
 enum { EFFECT_SECONDS = 70 }; /* so long a command may take for one text, and some more */
 
 /* Texts of one shard that were refused, and how often. */
@@ -36,20 +35,20 @@ struct refusals;
 
 /* The effect of one text, perhaps alone: then it is waited for, and a refusal is noted. The shard's refusals are made when
  * they are first needed; whoever serves the shard frees them with it. */
-enum effect_answer effects_take(struct store *store, const struct arrived *it, int is_alone, struct refusals **of);
+enum answer effects_take(struct store *store, const struct arrived *it, int is_alone, struct refusals **of);
 
-/* Whether a text was refused so often that it is put aside; puts it there, in a transaction: 0, or -1 after a fault. */
+/* Whether a text was refused so often that it is put aside; puts it there, in a transaction. */
 int effects_are_refused(const struct refusals *of, const struct arrived *it);
-int effects_put_aside(struct store *store, const struct refusals *of, const struct arrived *it);
+enum answer effects_put_aside(struct store *store, const struct refusals *of, const struct arrived *it);
 
-/* ---- For effects: one that refuses a text says why, and answers EFFECT_REFUSED. */
+/* ---- For effects: one that refuses a text says why, and answers ANSWER_REFUSED. */
 
 enum { EFFECT_REASON = 256 };
-typedef enum effect_answer effect_call(struct store *store, const struct arrived *it, char reason[EFFECT_REASON]);
+typedef enum answer effect_call(struct store *store, const struct arrived *it, char reason[EFFECT_REASON]);
 
-int statement_choose(const char *statement);
+enum answer statement_choose(const char *statement);
 effect_call statement_take;
-int command_choose(const char *words);
+enum answer command_choose(const char *words);
 effect_call command_take;
 
 #endif

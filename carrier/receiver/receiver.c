@@ -120,7 +120,7 @@ static int is_answered(void)
         if (is_wanted(shard) && threads_state(shard) != SHARD_SERVED)
             break;
     }
-    return !look->is_away(look) && look->incarnation(look, shard, &list, &end) == 0;
+    return !look->is_away(look) && look->incarnation(look, shard, &list, &end) == ANSWER_DONE;
 }
 
 /* Looks whether it is cut off from the carrier, where another receiver may not be: 1 if that has changed. */
@@ -266,8 +266,8 @@ static int work(void)
 {
     int is_fine;
     waiting_begin(&waiting, 1);
-    is_fine = effects_choose(options.effect, options.refusals) == 0
-              && threads_begin(&options.shard, sessions, options.shard_count == 0, &waiting) == 0
+    is_fine = effects_choose(options.effect, options.refusals) == ANSWER_DONE
+              && threads_begin(&options.shard, sessions, options.shard_count == 0, &waiting) == ANSWER_DONE
               && (options.metrics == NULL || service_listen(options.metrics) == 0);
     if (is_fine && options.shard_count == 0)
         is_fine = (locks = shard_locks_open(options.shard.store)) != NULL;

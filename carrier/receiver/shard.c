@@ -47,10 +47,9 @@ static enum krbrelay_answer open_any(struct shard *s, struct receiving *of, cons
                                 KRBRELAY_FRAME_LIMIT - s->together.used, &size, carried);
 }
 
-/* Opens the frame at any number, time and addresses: 1 and its number, 0 if it is refused or tells no
- * number, -1 after a fault, such as out of memory: then nothing is known of it. The session's opener is made
- * when it is first needed. */
-static int look(struct shard *s, struct receiving *of, const struct carried *it, uint64_t *number)
+/* Opens the frame at any number, time and addresses, and finds its number, unless it is refused or tells none. After a
+ * fault, such as out of memory, nothing is known of it. The session's opener is made when it is first needed. */
+static enum answer look(struct shard *s, struct receiving *of, const struct carried *it, uint64_t *number)
 {
     struct krbrelay_carried carried;
     enum krbrelay_answer answer = open_any(s, of, it, &carried);
@@ -60,14 +59,14 @@ static int look(struct shard *s, struct receiving *of, const struct carried *it,
             answer = open_any(s, of, it, &carried);
     }
     if (krbrelay_is_refusal(answer))
-        return 0;
+        return ANSWER_DONE;
     if (answer != KRBRELAY_OK) {
         report_answer("frame_unopened", it->session, 0, answer);
-        return -1;
+        return ANSWER_FAULT;
     }
     of->has_opened = 1;
     *number = carried.number;
-    return carried.has_number != 0;
+    return carried.has_number ? ANSWER_FOUND : ANSWER_DONE;
 }
 
 /* The session's row is to be compared and moved. */
@@ -118,9 +117,10 @@ static void tell_refused(struct shard *s, const struct carried *it, enum krbrela
                                     " --skew above the time that the carrier keeps frames?"));
 }
 
-/* The transaction has a frame of a session, of which this is known: 0 and what it is taken for, or -1 after a fault. */
-static int take_seen(struct shard *s, struct receiving *of, const struct carried *it, const struct krbrelay_seen *seen,
-                     uint32_t *outcome)
+/* The transaction has a frame of a session, of which this is known: what it is taken for. */
+static enum answer take_seen(struct shard *s, struct receiving *of, const struct carried *it,
+                             const struct krbrelay_seen *seen,
+                             uint32_t *outcome)
 {
     struct krbrelay_receiving end;
     enum krbrelay_answer answer = krbrelay_shard_take(&s->ends, of->place, it->frame, it->len, seen, it->offset, outcome);
@@ -130,7 +130,7 @@ static int take_seen(struct shard *s, struct receiving *of, const struct carried
         of->drafted = end.drafted;
     else
         report_answer("frame_unopened", it->session, of->drafted.number, answer);
-    return answer == KRBRELAY_OK ? 0 : -1;
+    return answer == KRBRELAY_OK ? ANSWER_DONE : ANSWER_FAULT;
 }
 
 /* A frame that wasn't accepted, by what it was taken for. */
@@ -154,39 +154,39 @@ static void note_unaccepted(struct shard *s, struct receiving *of, const struct 
         list_add(&s->standing, of, &of->is_standing);
 }
 
-/* Whether a refused frame is the session's, and its number: 1, 0 or -1 as `look` answers. One that passes all
- * checks but the number's was opened already. */
-static int find_number(struct shard *s, struct receiving *of, const struct carried *it,
-                       enum krbrelay_answer answer, uint64_t *number)
+/* Finds the number of a refused frame, if it is the session's, as `look`. One that passes all checks but the number's
+ * was opened already. */
+static enum answer find_number(struct shard *s, struct receiving *of, const struct carried *it,
+                               enum krbrelay_answer answer, uint64_t *number)
 {
     if (answer == KRBRELAY_AFTER_CLOSE)
-        return 0;
+        return ANSWER_DONE;
     if (answer != KRBRELAY_BADORDER || *number == UINT64_MAX)
         return look(s, of, it, number);
     of->has_opened = 1;
-    return 1;
+    return ANSWER_FOUND;
 }
 
-/* A frame was refused, and this number was told. Out of memory and the like is no refusal: -1. */
-static int take_refusal(struct shard *s, struct receiving *of, const struct carried *it,
-                        enum krbrelay_answer answer, uint64_t number)
+/* A frame was refused, and this number was told. Out of memory and the like is no refusal, and a fault. */
+static enum answer take_refusal(struct shard *s, struct receiving *of, const struct carried *it,
+                                enum krbrelay_answer answer, uint64_t number)
 {
     struct krbrelay_seen seen = { 0 };
     uint32_t outcome = 0;
-    int opens;
+    enum answer opens;
     if (!krbrelay_is_refusal(answer)) {
         report_answer("frame_unopened", it->session, of->drafted.number, answer);
-        return -1;
+        return ANSWER_FAULT;
     }
     opens = find_number(s, of, it, answer, &number);
-    if (opens < 0)
-        return -1; /* the frames are read again */
-    if (opens)
+    if (opens == ANSWER_FAULT)
+        return ANSWER_FAULT; /* the frames are read again */
+    if (opens == ANSWER_FOUND)
         seen = (struct krbrelay_seen){ .opened = number, .has_opened = 1 };
-    if (take_seen(s, of, it, &seen, &outcome) != 0)
-        return -1;
+    if (take_seen(s, of, it, &seen, &outcome) != ANSWER_DONE)
+        return ANSWER_FAULT;
     note_unaccepted(s, of, it, &seen, outcome, answer);
-    return 0;
+    return ANSWER_DONE;
 }
 
 /* A frame under a name that is no session's of this shard here. */
@@ -215,25 +215,25 @@ static void take_unknown(struct shard *s, const struct carried *it)
 /* ---- A frame that is accepted */
 
 /* A text that was refused often enough. No command is asked within the store's transaction: this is its last frame. */
-static enum effect_answer put_aside(struct shard *s, const struct arrived *it)
+static enum answer put_aside(struct shard *s, const struct arrived *it)
 {
-    if (shard_begin_late(s) != 0 || effects_put_aside(s->store, s->refusals, it) != 0)
-        return EFFECT_FAULT;
+    if (shard_begin_late(s) != ANSWER_DONE || effects_put_aside(s->store, s->refusals, it) != ANSWER_DONE)
+        return ANSWER_FAULT;
     s->is_last |= effects_are_outside();
     s->drafted.aside++;
-    return EFFECT_DONE;
+    return ANSWER_DONE;
 }
 
 /* The effect of one text of a record. */
-static enum effect_answer take_text(struct shard *s, const struct arrived *it, int is_alone)
+static enum answer take_text(struct shard *s, const struct arrived *it, int is_alone)
 {
-    enum effect_answer answer;
+    enum answer answer;
     if (effects_are_refused(s->refusals, it))
         return put_aside(s, it);
     if (effects_are_outside())
         service_allow(s->number, EFFECT_SECONDS);
     answer = effects_take(s->store, it, is_alone, &s->refusals);
-    s->drafted.texts += answer == EFFECT_DONE;
+    s->drafted.texts += answer == ANSWER_DONE;
     return answer;
 }
 
@@ -251,43 +251,43 @@ static void note_answered(struct shard *s, const struct arrived *it)
 }
 
 /* The effects of the texts of a record. */
-static enum effect_answer take_effects(struct shard *s, const struct receiving *of, const struct krbrelay_taken *taken,
-                                       const uint8_t *bytes, int is_alone)
+static enum answer take_effects(struct shard *s, const struct receiving *of, const struct krbrelay_taken *taken,
+                                const uint8_t *bytes, int is_alone)
 {
     struct arrived it = { of->of.name, of->opened != NULL ? of->opened->client : "",
                           of->opened != NULL ? of->opened->stream : "", of->drafted.number, 0, bytes, taken->size };
     unsigned answered = answered_parts(s, &it);
     size_t at = 0;
-    enum effect_answer answer = EFFECT_DONE;
+    enum answer answer = ANSWER_DONE;
     if (taken->kind == KRBRELAY_TEXT)
         answer = take_text(s, &it, is_alone);
-    while (taken->kind == KRBRELAY_BATCH && answer == EFFECT_DONE
+    while (taken->kind == KRBRELAY_BATCH && answer == ANSWER_DONE
            && krbrelay_batch_next(bytes, taken->size, &at, &it.text, &it.len) == KRBRELAY_OK) {
         if (it.part >= answered)
             answer = take_text(s, &it, is_alone);
-        it.part += answer == EFFECT_DONE;
+        it.part += answer == ANSWER_DONE;
         shard_note_alive(s);
     }
-    if (answer != EFFECT_DONE && effects_are_outside())
+    if (answer != ANSWER_DONE && effects_are_outside())
         note_answered(s, &it);
     s->drafted.bytes += taken->size;
     return answer;
 }
 
 /* The frame of the demanded number, whose record is read: its effects, and then that it was taken. */
-static enum effect_answer take_accepted(struct shard *s, struct receiving *of, const struct carried *it,
-                                        const struct krbrelay_taken *taken, const uint8_t *bytes, int is_alone)
+static enum answer take_accepted(struct shard *s, struct receiving *of, const struct carried *it,
+                                 const struct krbrelay_taken *taken, const uint8_t *bytes, int is_alone)
 {
     const struct krbrelay_seen seen = { .accepted = 1, .is_close = taken->kind == KRBRELAY_CLOSE };
     uint32_t outcome = 0;
-    enum effect_answer answer = take_effects(s, of, taken, bytes, is_alone);
+    enum answer answer = take_effects(s, of, taken, bytes, is_alone);
     s->counts.storing += lap(s);
-    if (answer == EFFECT_REFUSED || answer == EFFECT_LATER)
+    if (answer == ANSWER_REFUSED || answer == ANSWER_LATER)
         list_add(&s->standing, of, &of->is_standing);
-    if (answer != EFFECT_DONE)
+    if (answer != ANSWER_DONE)
         return answer;
-    if (take_seen(s, of, it, &seen, &outcome) != 0 || outcome != KRBRELAY_OUTCOME_ACCEPTED)
-        return EFFECT_FAULT; /* what the store has, and what was taken since, is where both are */
+    if (take_seen(s, of, it, &seen, &outcome) != ANSWER_DONE || outcome != KRBRELAY_OUTCOME_ACCEPTED)
+        return ANSWER_FAULT; /* what the store has, and what was taken since, is where both are */
     of->now.at = it->offset;
     of->now.missed = MISSED_NOTHING;
     of->has_opened = 1;
@@ -295,11 +295,11 @@ static enum effect_answer take_accepted(struct shard *s, struct receiving *of, c
     goes_on(s, of);
     s->drafted.accepted++;
     s->drafted.closed += seen.is_close;
-    return EFFECT_DONE;
+    return ANSWER_DONE;
 }
 
 /* The session's receiver, at what is stored, unless it is made. */
-static int make_receiver(const struct shard *s, struct receiving *it)
+static enum answer make_receiver(const struct shard *s, struct receiving *it)
 {
     const struct session *of = &it->of;
     const struct krbrelay_expect expect = { .mode = of->mode, .sender = of->from,
@@ -307,26 +307,26 @@ static int make_receiver(const struct shard *s, struct receiving *it)
                                             .skew = s->options->skew };
     enum krbrelay_answer answer;
     if (it->is_made)
-        return 0;
+        return ANSWER_DONE;
     answer = krbrelay_receiver_new(&it->receiver, of->etype, of->key, of->key_len, &expect,
                                    it->drafted.number, it->drafted.closed);
     it->is_made = answer == KRBRELAY_OK;
     if (!it->is_made)
         report_answer("receiver_unmade", of->name, it->drafted.number, answer);
-    return it->is_made ? 0 : -1;
+    return it->is_made ? ANSWER_DONE : ANSWER_FAULT;
 }
 
 /* An opening stands before the first number: it is a repeat, for which a receipt is owed, also where it begins
  * the session. */
-static int take_opening(struct shard *s, struct receiving *of, const struct carried *it)
+static enum answer take_opening(struct shard *s, struct receiving *of, const struct carried *it)
 {
     const struct krbrelay_seen seen = { .has_opened = 1, .opened = of->of.first - 1 };
     uint32_t outcome = 0;
-    if (take_seen(s, of, it, &seen, &outcome) != 0)
-        return -1;
+    if (take_seen(s, of, it, &seen, &outcome) != ANSWER_DONE)
+        return ANSWER_FAULT;
     if (it->offset != of->opened_at) {
         s->counts.repeats++;
-        return 0;
+        return ANSWER_DONE;
     }
     s->counts.opened++;
     of->now.at = it->offset;
@@ -334,28 +334,28 @@ static int take_opening(struct shard *s, struct receiving *of, const struct carr
     log_fact(LEVEL_INFO, "session_opened", field_text("session", of->of.name),
              field_number("shard", s->number), field_text("client", of->opened->client),
              field_text("stream", of->opened->stream), field_text("before", of->opened->before));
-    return 0;
+    return ANSWER_DONE;
 }
 
 /* A frame of a session that may not begin yet: it is asked for again. The row of the session before is compared, since
  * a receiver of the version before, of another shard in which somebody wrote its frames again, may have gone on with it. */
-static int take_before_turn(struct shard *s, struct receiving *of, const struct carried *it)
+static enum answer take_before_turn(struct shard *s, struct receiving *of, const struct carried *it)
 {
     const struct krbrelay_seen seen = { .has_opened = 1, .opened = of->of.first };
     struct receiving *before = NULL;
     uint32_t outcome = 0;
-    if (shard_find(s, of->opened->before, &before) == 1 && before->turn == s->turn)
+    if (shard_find(s, of->opened->before, &before) == ANSWER_FOUND && before->turn == s->turn)
         note_changed(s, before);
     s->counts.early++;
     log_fact(LEVEL_WARNING, "frame_early", field_text("session", it->session),
              field_number("shard", s->number), field_number("offset", it->offset),
              field_text("before", of->opened->before),
              field_text("text", "it has to come again after the close of the session before"));
-    if (take_seen(s, of, it, &seen, &outcome) != 0)
-        return -1;
+    if (take_seen(s, of, it, &seen, &outcome) != ANSWER_DONE)
+        return ANSWER_FAULT;
     note_missed(s, of, MISSED_EARLY);
     list_add(&s->standing, of, &of->is_standing);
-    return 0;
+    return ANSWER_DONE;
 }
 
 /* Whether nothing of a session by a ticket took effect, and its turn hasn't come. */
@@ -411,42 +411,42 @@ static void take_together(struct shard *s, struct receiving *of, int first, int 
     }
 }
 
-static enum effect_answer fault_unless(int answer)
+static enum answer fault_unless(int answer)
 {
-    return answer == 0 ? EFFECT_DONE : EFFECT_FAULT;
+    return answer == 0 ? ANSWER_DONE : ANSWER_FAULT;
 }
 
 /* Takes one frame of a session, within a transaction of so many. */
-static enum effect_answer take(struct shard *s, struct receiving *of, int place, int end, int is_alone)
+static enum answer take(struct shard *s, struct receiving *of, int place, int end, int is_alone)
 {
     const struct carried *it = &s->frames[place];
     const struct krbrelay_taken *taken;
     enum krbrelay_answer answer;
-    int done;
+    enum answer done;
     if (is_opening_of(of, it))
         return fault_unless(take_opening(s, of, it));
     if (is_before_turn(s, of))
         return fault_unless(take_before_turn(s, of, it));
-    if (make_receiver(s, of) != 0)
-        return EFFECT_FAULT;
+    if (make_receiver(s, of) != ANSWER_DONE)
+        return ANSWER_FAULT;
     if (place - s->together.first >= s->together.count)
         take_together(s, of, place, end);
     taken = &s->together.taken[place - s->together.first];
     answer = (enum krbrelay_answer)taken->answer;
-    done = answer == KRBRELAY_OK ? 0 : take_refusal(s, of, it, answer, taken->number);
+    done = answer == KRBRELAY_OK ? ANSWER_DONE : take_refusal(s, of, it, answer, taken->number);
     s->counts.opening += lap(s);
     if (answer != KRBRELAY_OK)
         return fault_unless(done);
     return take_accepted(s, of, it, taken, s->bytes + s->together.at[place - s->together.first], is_alone);
 }
 
-enum effect_answer shard_take(struct shard *s, int place, int end, int is_alone)
+enum answer shard_take(struct shard *s, int place, int end, int is_alone)
 {
     s->place = place;
     if (s->of_frames[place] != NULL)
         return take(s, s->of_frames[place], place, end, is_alone);
     take_unknown(s, &s->frames[place]);
-    return krbrelay_shard_pass(&s->ends, s->frames[place].offset) == KRBRELAY_OK ? EFFECT_DONE : EFFECT_FAULT;
+    return krbrelay_shard_pass(&s->ends, s->frames[place].offset) == KRBRELAY_OK ? ANSWER_DONE : ANSWER_FAULT;
 }
 
 void shard_leave(struct shard *s, int place)
@@ -500,36 +500,37 @@ static void await_list(struct shard *s)
     s->rests = krbrelay_pause_end(&s->unlisted);
 }
 
-/* Loads what isn't loaded: 1 if that was done, 0 if the carrier isn't ready, -1 after a fault of the store. */
-static int load(struct shard *s)
+/* Loads what isn't loaded. ANSWER_LATER: the carrier isn't ready; ANSWER_FAULT: the store has one. */
+static enum answer load(struct shard *s)
 {
     uint32_t then = KRBRELAY_THEN_WAIT;
-    int answer = shard_load(s);
-    if (answer == 1)
+    enum answer answer = shard_load(s);
+    if (answer == ANSWER_LATER)
         await_list(s);
     else
         s->unlisted.length = 0;
-    if (answer >= 0)
-        return !answer;
+    if (answer != ANSWER_FAULT)
+        return answer;
     if (krbrelay_shard_failed(&s->ends, KRBRELAY_FAILURE_FAULT, s->reading.read.offset, &then) != KRBRELAY_OK)
         s->rests = milliseconds() + WAIT; /* never: a shard is there */
     lose_store(s);
     tell_away(s);
-    return -1;
+    return ANSWER_FAULT;
 }
 
 /* Fetches frames for the next transactions: how many there are. */
 static int fetch(struct shard *s)
 {
     uint64_t began = nanoseconds();
-    int count = s->carrier->fetch(s->carrier, s->frames, s->options->batch);
-    if (count >= 0)
+    size_t count = 0;
+    enum answer answer = s->carrier->fetch(s->carrier, s->frames, s->options->batch, &count);
+    if (answer == ANSWER_DONE)
         s->answered = nanoseconds();
-    if (count == CARRIER_CHANGED)
-        load_again(s);
-    if (count < 0)
+    else
         s->rests = milliseconds() + WAIT;
-    if (count <= 0)
+    if (answer == ANSWER_CHANGED)
+        load_again(s);
+    if (count == 0)
         return 0;
     s->looked = nanoseconds();
     s->counts.fetching += s->looked - began;
@@ -539,8 +540,8 @@ static int fetch(struct shard *s)
         return 0;
     }
     s->next = 0;
-    s->fetched = count;
-    return count;
+    s->fetched = (int)count;
+    return s->fetched;
 }
 
 /* Nothing has come for a while: whether the store has what is known of it, and the list is still the one that is read, and
@@ -551,14 +552,14 @@ static void look_at_list(struct shard *s)
     uint32_t is_elsewhere = 0, found = KRBRELAY_FOUND_SAME;
     struct reached reached;
     s->looked = nanoseconds();
-    if (store_reached(s->store, s->number, &reached) != 0) {
+    if (store_reached(s->store, s->number, &reached) != ANSWER_DONE) {
         lose_store(s);
         return;
     }
     if (krbrelay_shard_found(&s->ends, reached.incarnation, reached.offset, &found) != KRBRELAY_OK
         || found != KRBRELAY_FOUND_SAME)
         load_again(s);
-    if (s->carrier->incarnation(s->carrier, s->number, &list, &end) == 0 && list != 0
+    if (s->carrier->incarnation(s->carrier, s->number, &list, &end) == ANSWER_DONE && list != 0
         && krbrelay_shard_listed(&s->ends, list, end, &is_elsewhere) == KRBRELAY_OK && is_elsewhere)
         load_again(s);
 }
@@ -620,7 +621,7 @@ static int step(struct shard *s)
 {
     uint32_t turn = KRBRELAY_TURN_LOAD;
     uint64_t at = 0;
-    int answer;
+    enum answer answer;
     forget_ended(s);
     look_at_store(s);
     shard_pay(s);
@@ -631,8 +632,8 @@ static int step(struct shard *s)
         s->rests = at;
     if (turn == KRBRELAY_TURN_LOAD) {
         answer = load(s);
-        if (answer != 1)
-            return answer;
+        if (answer != ANSWER_DONE)
+            return answer == ANSWER_FAULT ? -1 : 0;
     }
     return turn == KRBRELAY_TURN_WAIT ? 0 : take_some(s);
 }
@@ -675,22 +676,22 @@ int shard_step(struct shard *s, uint64_t *until)
 
 /* ---- */
 
-int shard_start(struct shard *s)
+enum answer shard_start(struct shard *s)
 {
     s->store = store_open(s->options->store, s->number);
     if (s->store == NULL)
-        return -1;
+        return ANSWER_FAULT;
     if (s->options->kerberos.keytab != NULL
         && (s->kerberos = kerberos_open(&s->options->kerberos,
                                         s->options->kerberos.service)) == NULL)
-        return -1;
+        return ANSWER_FAULT;
     if (krbrelay_shard_new(&s->ends, (uint32_t)effects_are_outside(), (uint32_t)effects_may_put_aside()) != KRBRELAY_OK)
-        return -1;
+        return ANSWER_FAULT;
     s->carrier = carrier_open(&s->options->carrier);
     s->frames = calloc(s->options->batch, sizeof *s->frames);
     s->of_frames = calloc(s->options->batch, sizeof *s->of_frames);
     s->bytes = malloc(KRBRELAY_FRAME_LIMIT);
-    return s->carrier && s->frames && s->of_frames && s->bytes ? 0 : -1;
+    return s->carrier && s->frames && s->of_frames && s->bytes ? ANSWER_DONE : ANSWER_FAULT;
 }
 
 void shard_use(struct shard *s, struct sessions *sessions)

@@ -132,8 +132,8 @@ struct shard {
     struct shard_counts counts;
 };
 
-/* Opens store and carrier. 0, or -1 after a fault. */
-int shard_start(struct shard *shard);
+/* Opens store and carrier. */
+enum answer shard_start(struct shard *shard);
 
 /* From now on these are its sessions of the file, of which it becomes a user. What it knew of others
  * ends. */
@@ -168,7 +168,7 @@ void shard_note_alive(struct shard *shard);
 
 /* Takes one of those that were fetched, of those up to `end`, perhaps alone (effects.h); and leaves those from this one
  * on for another transaction. */
-enum effect_answer shard_take(struct shard *shard, int place, int end, int is_alone);
+enum answer shard_take(struct shard *shard, int place, int end, int is_alone);
 void shard_leave(struct shard *shard, int place);
 
 /* ---- shard_transaction.c */
@@ -181,24 +181,23 @@ struct transacted { uint32_t failure, then; };
 /* One transaction of frames that were fetched. */
 struct transacted shard_transact(struct shard *shard);
 
-/* Opens the store's transaction, unless it is open: 0, or -1 after a fault. */
-int shard_begin_late(struct shard *shard);
+/* Opens the store's transaction, unless it is open. */
+enum answer shard_begin_late(struct shard *shard);
 
 /* ---- shard_load.c: which sessions a shard has, and what the store has of them. */
 
-/* Makes all what store and carrier have: 0, 1 if the carrier doesn't answer or has no such shard
- * yet, -1 after a fault of the store. */
-int shard_load(struct shard *shard);
+/* Makes all what store and carrier have. ANSWER_LATER: the carrier doesn't answer, or has no such shard yet. A fault is
+ * the store's. */
+enum answer shard_load(struct shard *shard);
 
-/* Has `ends` say how far the shard was read: 0, or -1. */
-int shard_look(struct shard *shard);
+/* Has `ends` say how far the shard was read. */
+enum answer shard_look(struct shard *shard);
 
-/* Loads the sessions of these of the frames that were fetched. 0, or -1 after a fault. */
-int shard_load_frames(struct shard *shard, int first, int end);
+/* Loads the sessions of these of the frames that were fetched. */
+enum answer shard_load_frames(struct shard *shard, int first, int end);
 
-/* The session of this name: 1, 0 and NULL if none is loaded and none has a line, -1 if there is no
- * memory. */
-int shard_find(struct shard *shard, const char *name, struct receiving **found);
+/* Finds the session of this name, which is loaded or has a line; NULL if there is none. A fault: there is no memory. */
+enum answer shard_find(struct shard *shard, const char *name, struct receiving **found);
 
 /* Adds a session of which nothing is known. NULL if there is no memory. */
 struct receiving *shard_add(struct shard *shard, const struct session *of);
@@ -207,12 +206,11 @@ void shard_forget(struct shard *shard);
 
 /* ---- shard_open.c: sessions that begin by tickets. */
 
-/* Finds the session of a frame whose name has no line, in the store or by its opening: 1, 0, or -1
- * after a fault. */
-int shard_find_opened(struct shard *shard, const struct carried *it, struct receiving **found);
+/* Finds the session of a frame whose name has no line, in the store or by its opening. */
+enum answer shard_find_opened(struct shard *shard, const struct carried *it, struct receiving **found);
 
-/* Finds the session of the stream before this one, if it is stored. 0, or -1 after a fault. */
-int shard_find_before(struct shard *shard, const struct receiving *of, struct receiving **found);
+/* Finds the session of the stream before this one, if it is stored. */
+enum answer shard_find_before(struct shard *shard, const struct receiving *of, struct receiving **found);
 
 /* What krb_engine takes a session's beginning for, KRBRELAY_JUDGED_*, by the session of its stream before it. */
 uint32_t shard_judge(struct shard *shard, const struct receiving *of);

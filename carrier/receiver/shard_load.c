@@ -61,22 +61,24 @@ struct receiving *shard_add(struct shard *s, const struct session *of)
     return it;
 }
 
-int shard_find(struct shard *s, const char *name, struct receiving **it)
+enum answer shard_find(struct shard *s, const char *name, struct receiving **it)
 {
     void *found = tfind(name, &s->receivings, by_name);
     struct session of;
     int is_there;
     *it = found != NULL ? *(struct receiving **)found : NULL;
     if (*it != NULL)
-        return 1;
+        return ANSWER_FOUND;
     is_there = sessions_find(s->sessions, name, &of) && of.shard == s->number;
     if (is_there && receipt_key(&of) == 0)
         *it = shard_add(s, &of);
     explicit_bzero(&of, sizeof of);
-    if (!is_there || *it != NULL)
-        return is_there;
+    if (!is_there)
+        return ANSWER_DONE;
+    if (*it != NULL)
+        return ANSWER_FOUND;
     log_system("out_of_memory", "sessions");
-    return -1;
+    return ANSWER_FAULT;
 }
 
 void shard_forget(struct shard *s)
@@ -106,15 +108,15 @@ static void ask(struct shard *s, struct receiving *it)
 }
 
 /* The same of the session of its stream before it. */
-static int ask_before(struct shard *s, const struct receiving *it)
+static enum answer ask_before(struct shard *s, const struct receiving *it)
 {
     struct receiving *before;
-    if (it->opened == NULL || shard_find_before(s, it, &before) != 0)
-        return it->opened == NULL ? 0 : -1;
+    if (it->opened == NULL || shard_find_before(s, it, &before) != ANSWER_DONE)
+        return it->opened == NULL ? ANSWER_DONE : ANSWER_FAULT;
     if (before == NULL || before->turn == s->turn)
-        return 0;
+        return ANSWER_DONE;
     ask(s, before);
-    return 0;
+    return ANSWER_DONE;
 }
 
 /* Whether the next transaction moves the shard to another list. */
@@ -130,21 +132,21 @@ static void reset(struct demand *stored)
     stored->missed = MISSED_NOTHING;
 }
 
-static int note_stored(void *given, const char *name, const struct demand *demand)
+static enum answer note_stored(void *given, const char *name, const struct demand *demand)
 {
     struct shard *s = given;
     struct receiving *it;
-    int found = shard_find(s, name, &it);
-    if (found != 1)
+    enum answer found = shard_find(s, name, &it);
+    if (found != ANSWER_FOUND)
         return found;
     it->stored = *demand;
     if (is_other_list(s) && demand->shard == (int32_t)s->number)
         reset(&it->stored);
-    return 0;
+    return ANSWER_DONE;
 }
 
-/* What this receiver makes of a session's row: 0, or -1 if there is no memory. */
-static int place_session(struct shard *s, struct receiving *it)
+/* What this receiver makes of a session's row. A fault: there is no memory. */
+static enum answer place_session(struct shard *s, struct receiving *it)
 {
     struct krbrelay_row row = { .number = it->stored.next, .closed = it->stored.closed };
     enum krbrelay_answer answer;
@@ -152,7 +154,7 @@ static int place_session(struct shard *s, struct receiving *it)
     answer = krbrelay_shard_add(&s->ends, &row, &it->place);
     if (answer != KRBRELAY_OK) {
         report_answer("session_unloaded", it->of.name, row.number, answer);
-        return -1;
+        return ANSWER_FAULT;
     }
     s->members.at[s->members.count++] = it;
     it->drafted = row;
@@ -162,16 +164,16 @@ static int place_session(struct shard *s, struct receiving *it)
         it->now.shard = (int32_t)s->number;
         it->now.missed = MISSED_NOTHING;
     }
-    return 0;
+    return ANSWER_DONE;
 }
 
 /* Asks the store of the sessions that are noted for it. */
-static int ask_store(struct shard *s)
+static enum answer ask_store(struct shard *s)
 {
     const char *names[TOGETHER];
     size_t i, count = 0;
-    int answer = 0;
-    for (i = 0; i < s->asked.count && answer == 0; i++) {
+    enum answer answer = ANSWER_DONE;
+    for (i = 0; i < s->asked.count && answer == ANSWER_DONE; i++) {
         names[count++] = ((struct receiving *)s->asked.at[i])->of.name;
         if (count < TOGETHER && i + 1 < s->asked.count)
             continue;
@@ -183,39 +185,39 @@ static int ask_store(struct shard *s)
 
 /* Asks the store of a session, and of the one before it, for which it may wait: that one is looked for with each
  * frame, since its row may come, or its key be readable, after this session was loaded. */
-static int ask_for(struct shard *s, struct receiving *it)
+static enum answer ask_for(struct shard *s, struct receiving *it)
 {
     int is_new = it->turn != s->turn;
     ask(s, it);
-    return is_new || it->drafted.number == it->of.first ? ask_before(s, it) : 0;
+    return is_new || it->drafted.number == it->of.first ? ask_before(s, it) : ANSWER_DONE;
 }
 
-int shard_load_frames(struct shard *s, int first, int end)
+enum answer shard_load_frames(struct shard *s, int first, int end)
 {
     int i;
     size_t each;
     s->asked.count = 0;
     s->unknown[0] = 0;
     for (i = first; i < end; i++) {
-        int found;
+        enum answer found;
         if (i > first && s->of_frames[i - 1] != NULL && strcmp(s->frames[i].session, s->frames[i - 1].session) == 0) {
             s->of_frames[i] = s->of_frames[i - 1]; /* as mostly: a session's frames come together */
             continue;
         }
         found = shard_find(s, s->frames[i].session, &s->of_frames[i]);
-        if (found == 0 && s->kerberos != NULL)
+        if (found == ANSWER_DONE && s->kerberos != NULL)
             found = shard_find_opened(s, &s->frames[i], &s->of_frames[i]);
-        if (found < 0)
-            return -1;
-        if (found == 1 && ask_for(s, s->of_frames[i]) != 0)
-            return -1;
+        if (found == ANSWER_FAULT)
+            return ANSWER_FAULT;
+        if (found == ANSWER_FOUND && ask_for(s, s->of_frames[i]) != ANSWER_DONE)
+            return ANSWER_FAULT;
     }
-    if (ask_store(s) != 0)
-        return -1;
+    if (ask_store(s) != ANSWER_DONE)
+        return ANSWER_FAULT;
     for (each = 0; each < s->asked.count; each++)
-        if (place_session(s, s->asked.at[each]) != 0)
-            return -1;
-    return 0;
+        if (place_session(s, s->asked.at[each]) != ANSWER_DONE)
+            return ANSWER_FAULT;
+    return ANSWER_DONE;
 }
 
 /* ---- Loading */
@@ -230,22 +232,22 @@ static void begin_turn(struct shard *s)
     s->changed.count = s->members.count = 0;
 }
 
-static int count_closed(void *given, const char *name, const struct demand *demand)
+static enum answer count_closed(void *given, const char *name, const struct demand *demand)
 {
     (void)name;
     *(size_t *)given += demand->closed != 0;
-    return 0;
+    return ANSWER_DONE;
 }
 
 /* How many sessions of the file are open: all of them are looked at. */
-static int count_open(struct shard *s)
+static enum answer count_open(struct shard *s)
 {
     char names[TOGETHER][CARRIER_NAME];
     const char *list[TOGETHER];
     size_t i, count = 0, all = 0, closed = 0, last = sessions_count(s->sessions);
     struct session it;
-    int answer = 0;
-    for (i = 0; i < last && answer == 0; i++) {
+    enum answer answer = ANSWER_DONE;
+    for (i = 0; i < last && answer == ANSWER_DONE; i++) {
         sessions_at(s->sessions, i, &it);
         if (it.shard == s->number) {
             list[count] = strcpy(names[count], it.name);
@@ -262,9 +264,9 @@ static int count_open(struct shard *s)
     return answer;
 }
 
-int shard_look(struct shard *s)
+enum answer shard_look(struct shard *s)
 {
-    return krbrelay_shard_reading(&s->ends, &s->reading) == KRBRELAY_OK ? 0 : -1;
+    return krbrelay_shard_reading(&s->ends, &s->reading) == KRBRELAY_OK ? ANSWER_DONE : ANSWER_FAULT;
 }
 
 /* The store has gone back, if it has less of the same list than is known. */
@@ -281,40 +283,40 @@ static void tell_behind(struct shard *s, const struct reached *reached)
 }
 
 /* Where the shard is read on: not from where it was, if it is another list, or was cut off. */
-static int place_reading(struct shard *s, const struct reached *reached, uint64_t list, uint64_t end)
+static enum answer place_reading(struct shard *s, const struct reached *reached, uint64_t list, uint64_t end)
 {
     const struct krbrelay_reading *it = &s->reading;
     uint32_t is_elsewhere = 0;
     tell_behind(s, reached);
     if (krbrelay_shard_loaded(&s->ends, reached->incarnation, reached->offset) != KRBRELAY_OK
-        || krbrelay_shard_listed(&s->ends, list, end, &is_elsewhere) != KRBRELAY_OK || shard_look(s) != 0)
-        return -1;
+        || krbrelay_shard_listed(&s->ends, list, end, &is_elsewhere) != KRBRELAY_OK || shard_look(s) != ANSWER_DONE)
+        return ANSWER_FAULT;
     if (is_elsewhere && it->stored.list != 0)
         log_fact(LEVEL_WARNING, it->stored.list != list ? "shard_made_anew" : "shard_lost_frames",
                  field_number("shard", s->number), field_number("end", end),
                  field_number("offset", it->stored.offset), field_number("from", it->read.offset),
                  field_text("text", "it is read on from there: what didn't take effect comes again"));
-    return 0;
+    return ANSWER_DONE;
 }
 
-int shard_load(struct shard *s)
+enum answer shard_load(struct shard *s)
 {
     uint64_t list = 0, end = 0;
     struct reached reached;
     if (s->store == NULL && (s->store = store_open(s->options->store, s->number)) == NULL)
-        return -1;
+        return ANSWER_FAULT;
     begin_turn(s);
-    if (store_reached(s->store, s->number, &reached) != 0
-        || (s->options->until_closed && count_open(s) != 0))
-        return -1;
-    if (s->carrier->incarnation(s->carrier, s->number, &list, &end) != 0 || list == 0)
-        return 1;
+    if (store_reached(s->store, s->number, &reached) != ANSWER_DONE
+        || (s->options->until_closed && count_open(s) != ANSWER_DONE))
+        return ANSWER_FAULT;
+    if (s->carrier->incarnation(s->carrier, s->number, &list, &end) != ANSWER_DONE || list == 0)
+        return ANSWER_LATER;
     if (s->kerberos != NULL && !s->has_wrapped) /* without the keytab others go on */
-        s->has_wrapped = openings_wrap_anew(s->store, s->kerberos, s->number) == 0;
-    if (place_reading(s, &reached, list, end) != 0)
-        return -1;
+        s->has_wrapped = openings_wrap_anew(s->store, s->kerberos, s->number) == ANSWER_DONE;
+    if (place_reading(s, &reached, list, end) != ANSWER_DONE)
+        return ANSWER_FAULT;
     s->carrier->seek(s->carrier, s->number, s->reading.read.offset);
     s->next = s->fetched = 0;
     s->is_loaded = 1;
-    return 0;
+    return ANSWER_DONE;
 }

@@ -42,40 +42,40 @@ static int is_same_stream(const struct opened *one, const struct opened *other)
 
 /* A session is of the shard that its row says. A stream is in one shard, so the session before one of this shard is of
  * it too, also if its row says another one: its opening, of the version before, was copied there. */
-static int note_found(void *given, const struct opened *it)
+static enum answer note_found(void *given, const struct opened *it)
 {
     struct sought *sought = given;
     int is_here = it->shard == sought->shard->number;
     if (!is_here && (sought->after == NULL || !is_same_stream(it, sought->after)))
-        return 0;
+        return ANSWER_DONE;
     sought->found = add(sought->shard, it);
-    return sought->found != NULL ? 0 : -1;
+    return sought->found != NULL ? ANSWER_DONE : ANSWER_FAULT;
 }
 
-/* The session of this name, or the one of this name before another one: 1, 0 and NULL if the store has none in this
- * shard, -1 after a fault. */
-static int find_stored(struct shard *s, const char *name, const struct opened *after, struct receiving **found)
+/* The session of this name, or the one of this name before another one; DONE and NULL if the store has none in
+ * this shard. */
+static enum answer find_stored(struct shard *s, const char *name, const struct opened *after, struct receiving **found)
 {
     struct sought sought = { s, after, NULL };
-    if (openings_find(s->store, s->kerberos, name, note_found, &sought) != 0)
-        return -1;
+    if (openings_find(s->store, s->kerberos, name, note_found, &sought) != ANSWER_DONE)
+        return ANSWER_FAULT;
     *found = sought.found;
-    return *found != NULL;
+    return *found != NULL ? ANSWER_FOUND : ANSWER_DONE;
 }
 
 /* ---- The session before it */
 
-int shard_find_before(struct shard *s, const struct receiving *of, struct receiving **found)
+enum answer shard_find_before(struct shard *s, const struct receiving *of, struct receiving **found)
 {
     const char *name = of->opened->before;
-    int answer;
+    enum answer answer;
     *found = NULL;
     if (*name == 0)
-        return 0;
+        return ANSWER_DONE;
     answer = shard_find(s, name, found);
-    if (answer == 0)
+    if (answer == ANSWER_DONE)
         answer = find_stored(s, name, of->opened, found);
-    return answer >= 0 ? 0 : -1;
+    return answer == ANSWER_FAULT ? answer : ANSWER_DONE;
 }
 
 /* The stream's session before this one as krb_engine's head of the stream: none, unless the store has it. */
@@ -83,7 +83,7 @@ static struct krbrelay_head head_before(struct shard *s, const struct receiving 
 {
     struct krbrelay_head head = { 0 };
     struct receiving *before;
-    if (shard_find(s, of->opened->before, &before) != 1 || before->turn != s->turn
+    if (shard_find(s, of->opened->before, &before) != ANSWER_FOUND || before->turn != s->turn
         || before->opened == NULL || !is_same_stream(before->opened, of->opened))
         return head;
     *is_known = before->stored.history.is_known;
@@ -126,8 +126,8 @@ uint32_t shard_judge(struct shard *s, const struct receiving *of)
 /* ---- By an opening */
 
 /* An opening isn't taken now: its sender makes another one, as long as it hears of no receipt. */
-static int refuse(struct shard *s, const struct carried *it, enum opening_answer answer,
-                  const struct opened *opened)
+static enum answer refuse(struct shard *s, const struct carried *it, enum opening_answer answer,
+                          const struct opened *opened)
 {
     shard_count_unopened(&s->counts, answer);
     log_fact(LEVEL_WARNING, "opening_refused", field_text("session", it->session),
@@ -135,7 +135,7 @@ static int refuse(struct shard *s, const struct carried *it, enum opening_answer
              field_text("answer", opening_name(answer)), field_text("client", opened->client),
              field_text("stream", opened->stream),
              field_text("text", "its sender sends another one, which counts once it can be taken"));
-    return 0;
+    return ANSWER_DONE;
 }
 
 /* Whether a session may begin, beside those that this transaction begins, and by what the store has. */
@@ -150,35 +150,36 @@ static enum opening_answer judge_place(struct shard *s, const struct opened *it)
     return openings_judge(s->store, it);
 }
 
-static int open_session(struct shard *s, const struct carried *it, struct receiving **found)
+static enum answer open_session(struct shard *s, const struct carried *it, struct receiving **found)
 {
     struct opened opened;
     enum opening_answer answer = opening_take(s->kerberos, s->number, it->session, it->frame, it->len, &opened);
-    int done = -1;
+    enum answer done = ANSWER_FAULT;
     if (answer == OPENING_OK)
         answer = judge_place(s, &opened);
     if (answer > OPENING_OK)
         done = refuse(s, it, answer, &opened);
     else if (answer == OPENING_OK) {
         *found = add(s, &opened);
-        done = *found != NULL ? 1 : -1;
+        done = *found != NULL ? ANSWER_FOUND : ANSWER_FAULT;
     }
     explicit_bzero(&opened, sizeof opened);
-    if (done != 1)
+    if (done != ANSWER_FOUND)
         return done;
     (*found)->opened_at = it->offset;
     s->news.at[s->news.count++] = *found;
-    return 1;
+    return ANSWER_FOUND;
 }
 
-int shard_find_opened(struct shard *s, const struct carried *it, struct receiving **found)
+enum answer shard_find_opened(struct shard *s, const struct carried *it, struct receiving **found)
 {
-    int answer, is_opening = opening_is(it->frame, it->len);
+    int is_opening = opening_is(it->frame, it->len);
+    enum answer answer;
     if (!sessions_may_have(it->session) || (!is_opening && strcmp(s->unknown, it->session) == 0))
-        return 0;
+        return ANSWER_DONE;
     answer = find_stored(s, it->session, NULL, found);
-    if (answer != 0)
+    if (answer != ANSWER_DONE)
         return answer;
     memcpy(s->unknown, it->session, sizeof s->unknown);
-    return is_opening ? open_session(s, it, found) : 0;
+    return is_opening ? open_session(s, it, found) : ANSWER_DONE;
 }

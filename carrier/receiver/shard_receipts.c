@@ -63,7 +63,7 @@ static int pay_some(struct shard *s, uint64_t now)
     seal_some(s, now, &some);
     if (some.count == 0)
         return 0;
-    if (s->carrier->acknowledge(s->carrier, s->number, some.list, some.count) != 0) {
+    if (s->carrier->acknowledge(s->carrier, s->number, some.list, some.count) != ANSWER_DONE) {
         for (i = 0; i < some.count && owe_again(s, some.places[i], some.asks[i]); i++)
             continue;
         return 0;

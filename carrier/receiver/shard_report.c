@@ -118,7 +118,7 @@ void shard_show(struct shard *s, unsigned part)
     char labels[32];
     uint64_t behind = 0;
     unsigned i;
-    int is_known = s->is_loaded && s->carrier->behind(s->carrier, &behind) == 0;
+    int is_known = s->is_loaded && s->carrier->behind(s->carrier, &behind) == ANSWER_DONE;
     double values[sizeof shard_metrics / sizeof *shard_metrics] = { OF_SHARD(VALUE) };
     for (i = 0; i < REFUSALS; i++)
         values[shard_metrics_count - REFUSALS + i] = (double)c->refused[i];

@@ -93,13 +93,13 @@ void threads_prepare(struct served *it, unsigned shard)
     *it = (struct served){ .shard = { .options = serving.options, .number = shard }, .answered = nanoseconds() };
 }
 
-int threads_open(struct served *it)
+enum answer threads_open(struct served *it)
 {
-    if (shard_start(&it->shard) != 0)
-        return -1;
+    if (shard_start(&it->shard) != ANSWER_DONE)
+        return ANSWER_FAULT;
     shard_show(&it->shard, it->shard.number);
     it->began = it->reported = nanoseconds();
-    return 0;
+    return ANSWER_DONE;
 }
 
 /* One step, of which what it did is noted. What waits for the first frame isn't counted in the seconds. */
@@ -144,7 +144,7 @@ static void *work(void *given)
     struct thread *it = given;
     struct served *served = &it->served;
     uint64_t until = 0;
-    if (threads_open(served) == 0) {
+    if (threads_open(served) == ANSWER_DONE) {
         set(&it->has_begun);
         waiting_wake(serving.owner);
         while (!threads_turn(served, &until)) {
@@ -166,8 +166,8 @@ static void *work(void *given)
 
 /* ---- All of them */
 
-int threads_begin(const struct shard_options *options, struct sessions *sessions, int come_and_go,
-                  struct waiting *owner)
+enum answer threads_begin(const struct shard_options *options, struct sessions *sessions, int come_and_go,
+                          struct waiting *owner)
 {
     serving.options = options;
     serving.owner = owner;
@@ -176,9 +176,9 @@ int threads_begin(const struct shard_options *options, struct sessions *sessions
     serving.threads = calloc(CARRIER_SHARDS, sizeof *serving.threads);
     if (serving.threads != NULL && service_begin("receiver", shard_metrics, shard_metrics_count,
                                                  &shard_stands_metric, CARRIER_SHARDS + 1) == 0)
-        return 0;
+        return ANSWER_DONE;
     log_system("out_of_memory", "receiver");
-    return -1;
+    return ANSWER_FAULT;
 }
 
 void threads_use(struct sessions *sessions)

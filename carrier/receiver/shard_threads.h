@@ -12,10 +12,9 @@ enum shard_state {
     SHARD_LEFT    /* its thread is to end, or has ended */
 };
 
-/* Prepares all. If shards come and go, one that can't be started is no fault. 0, or -1 without
- * memory. */
-int threads_begin(const struct shard_options *options, struct sessions *sessions, int come_and_go,
-                  struct waiting *owner);
+/* Prepares all. If shards come and go, one that can't be started is no fault. */
+enum answer threads_begin(const struct shard_options *options, struct sessions *sessions, int come_and_go,
+                          struct waiting *owner);
 
 /* From now on these are the sessions of all. */
 void threads_use(struct sessions *sessions);
@@ -62,8 +61,8 @@ struct served {
 /* The shard is to be served, by threads_begin's options. */
 void threads_prepare(struct served *it, unsigned shard);
 
-/* Opens it. 0, or -1 after a fault. After both shard_stop has to be called in the end. */
-int threads_open(struct served *it);
+/* Opens it. After both shard_stop has to be called in the end. */
+enum answer threads_open(struct served *it);
 
 /* One step of the shard, with the sessions of threads_use; the next one is due at *until, as that of shard_step. 1 if there
  * is none since it is to end, or all its sessions are closed and that is the end. */

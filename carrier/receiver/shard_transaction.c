@@ -26,18 +26,18 @@ static void draft(struct receiving *it)
         it->now.missed = MISSED_NOTHING;
 }
 
-static int advance_all(struct shard *s)
+static enum answer advance_all(struct shard *s)
 {
     size_t i;
     for (i = 0; i < s->changed.count; i++) {
         struct receiving *it = s->changed.at[i];
         draft(it);
-        if (store_advance(s->store, it->of.name, &it->stored, &it->now) != 0)
-            return -1;
-        if (it->opened_at > 0 && openings_add(s->store, s->kerberos, it->opened) != 0)
-            return -1;
+        if (store_advance(s->store, it->of.name, &it->stored, &it->now) != ANSWER_DONE)
+            return ANSWER_FAULT;
+        if (it->opened_at > 0 && openings_add(s->store, s->kerberos, it->opened) != ANSWER_DONE)
+            return ANSWER_FAULT;
     }
-    return 0;
+    return ANSWER_DONE;
 }
 
 /* Keeps of the sessions whose openings were fetched those that weren't taken yet. */
@@ -60,11 +60,11 @@ static void count_stored(struct shard *s)
     s->open -= s->drafted.closed < s->open ? s->drafted.closed : s->open;
 }
 
-/* The transaction took effect: 0, or -1 where krb_receiver doesn't say up to where. */
-static int note_stored(struct shard *s)
+/* The transaction took effect. ANSWER_FAULT: krb_receiver doesn't say up to where. */
+static enum answer note_stored(struct shard *s)
 {
     size_t i;
-    int answer = krbrelay_shard_stored(&s->ends) == KRBRELAY_OK ? shard_look(s) : -1;
+    enum answer answer = krbrelay_shard_stored(&s->ends) == KRBRELAY_OK ? shard_look(s) : ANSWER_FAULT;
     for (i = 0; i < s->changed.count; i++) {
         struct receiving *it = s->changed.at[i];
         it->now.is_stored = 1;
@@ -83,7 +83,7 @@ static int note_stored(struct shard *s)
 /* ---- The store's transaction */
 
 /* It moves the shard at first, so that another receiver is noticed before an effect is asked for. */
-static int begin(struct shard *s, uint64_t to)
+static enum answer begin(struct shard *s, uint64_t to)
 {
     const struct reached from = { s->reading.stored.list, s->reading.stored.offset };
     const struct reached reached = { s->reading.read.list, to };
@@ -97,7 +97,7 @@ static uint32_t ask_fence(struct shard *s)
 {
     struct reached reached;
     uint32_t found = KRBRELAY_FOUND_SAME;
-    if (store_reached(s->store, s->number, &reached) != 0
+    if (store_reached(s->store, s->number, &reached) != ANSWER_DONE
         || krbrelay_shard_found(&s->ends, reached.incarnation, reached.offset, &found) != KRBRELAY_OK)
         return KRBRELAY_FAILURE_FAULT;
     return found == KRBRELAY_FOUND_SAME ? SHARD_DONE : KRBRELAY_FAILURE_FENCED;
@@ -109,31 +109,31 @@ static uint32_t open_store(struct shard *s, int end, uint32_t alone)
     if (effects_are_outside())
         return ask_fence(s);
     s->is_begun = 1;
-    if (begin(s, s->frames[end - 1].offset) != 0)
+    if (begin(s, s->frames[end - 1].offset) != ANSWER_DONE)
         return KRBRELAY_FAILURE_FAULT;
     if (alone && s->store->checks_at_once != NULL
-        && s->store->run(s->store, s->store->checks_at_once, NULL, 0, ANY_ROWS) != 0)
+        && s->store->run(s->store, s->store->checks_at_once, NULL, 0, ANY_ROWS) != ANSWER_DONE)
         return KRBRELAY_FAILURE_FAULT;
     return SHARD_DONE;
 }
 
-int shard_begin_late(struct shard *s)
+enum answer shard_begin_late(struct shard *s)
 {
     if (s->is_begun)
-        return 0;
+        return ANSWER_DONE;
     s->is_begun = 1;
     return begin(s, s->frames[s->place].offset);
 }
 
 /* Moves the shard to where the frames that were taken end. */
-static int place_offset(struct shard *s, int next)
+static enum answer place_offset(struct shard *s, int next)
 {
     const struct reached before = { s->reading.read.list, s->moved_to };
     const struct reached now = { s->reading.read.list, s->frames[next - 1].offset };
     s->place = next - 1;
-    if (shard_begin_late(s) != 0)
-        return -1;
-    return now.offset == s->moved_to ? 0 : store_move(s->store, s->number, &before, &now);
+    if (shard_begin_late(s) != ANSWER_DONE)
+        return ANSWER_FAULT;
+    return now.offset == s->moved_to ? ANSWER_DONE : store_move(s->store, s->number, &before, &now);
 }
 
 /* A fault of the store. Where it says that it refuses values, those of a text may be the reason. No text of a command has
@@ -146,16 +146,16 @@ static uint32_t fault_of(const struct shard *s)
 /* Stores the frames up to this one. */
 static uint32_t commit(struct shard *s, int next)
 {
-    int answer = place_offset(s, next);
-    if (answer == 0)
+    enum answer answer = place_offset(s, next);
+    if (answer == ANSWER_DONE)
         answer = advance_all(s);
-    if (answer == 0)
+    if (answer == ANSWER_DONE)
         answer = s->store->commit(s->store);
     else
         s->store->rollback(s->store);
-    if (answer != 0)
-        return answer > 0 ? KRBRELAY_FAILURE_FENCED : fault_of(s);
-    if (note_stored(s) != 0)
+    if (answer != ANSWER_DONE)
+        return answer == ANSWER_ELSEWHERE ? KRBRELAY_FAILURE_FENCED : fault_of(s);
+    if (note_stored(s) != ANSWER_DONE)
         return KRBRELAY_FAILURE_FAULT; /* never: a transaction is under way */
     shard_leave(s, next);
     s->next = next;
@@ -171,21 +171,20 @@ static int is_full(struct shard *s)
 }
 
 /* What the answer to an effect is for krb_receiver. */
-static uint32_t failure_of(const struct shard *s, enum effect_answer answer)
+static uint32_t failure_of(const struct shard *s, enum answer answer)
 {
     switch (answer) {
-    case EFFECT_DONE: return SHARD_DONE;
-    case EFFECT_REFUSED: return KRBRELAY_FAILURE_REFUSED;
-    case EFFECT_LATER: return KRBRELAY_FAILURE_LATER;
-    case EFFECT_FAULT: break;
+    case ANSWER_DONE: return SHARD_DONE;
+    case ANSWER_REFUSED: return KRBRELAY_FAILURE_REFUSED;
+    case ANSWER_LATER: return KRBRELAY_FAILURE_LATER;
+    default: return fault_of(s);
     }
-    return fault_of(s);
 }
 
 /* Takes frames from the next one on: *next is the first that wasn't. */
 static uint32_t take_frames(struct shard *s, int end, int alone, int *next)
 {
-    enum effect_answer answer = EFFECT_DONE;
+    enum answer answer = ANSWER_DONE;
     int i = s->next;
     s->shown = nanoseconds();
     s->is_last = 0;
@@ -193,7 +192,7 @@ static uint32_t take_frames(struct shard *s, int end, int alone, int *next)
     s->together.first = s->together.count = 0;
     while (i < end && (i == s->next || !is_full(s))) {
         answer = shard_take(s, i, end, alone);
-        if (answer != EFFECT_DONE)
+        if (answer != ANSWER_DONE)
             break;
         shard_note_alive(s);
         i++;
@@ -238,7 +237,7 @@ static struct transacted transact(struct shard *s)
     if (krbrelay_shard_begin(&s->ends, s->frames[next].offset, milliseconds(), &alone) != KRBRELAY_OK)
         return give_up(s, failure, next); /* never: none is under way */
     end = alone ? next + 1 : s->fetched;
-    if (shard_load_frames(s, next, end) == 0)
+    if (shard_load_frames(s, next, end) == ANSWER_DONE)
         failure = open_store(s, end, alone);
     if (failure == SHARD_DONE)
         failure = take_frames(s, end, (int)alone, &next);

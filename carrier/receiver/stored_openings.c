@@ -58,25 +58,25 @@ static int read_columns(struct reading *r, const char *const *row)
 }
 
 /* A row that can't be read is left out, with a report: its frames are passed by, and come again. */
-static int read_row(void *given, const char *const *row)
+static enum answer read_row(void *given, const char *const *row)
 {
     struct reading *r = given;
     char about[KEY_WRAPPING_ABOUT];
-    int answer;
+    enum answer answer;
     r->rows++;
     if (!copy_text(r->last, sizeof r->last, row[NAME]) || !read_columns(r, row))
-        return 0;
+        return ANSWER_DONE;
     write_about(&r->it, about);
     if (key_unwrap(r->kerberos, KEY_WRAPPING_RECEIVER, about, &r->wrapped, r->it.key,
                      &r->it.key_len) != 0)
-        return 0;
+        return ANSWER_DONE;
     answer = r->take(r->given, &r->it);
     explicit_bzero(r->it.key, sizeof r->it.key);
     return answer;
 }
 
-int openings_find(struct store *store, struct kerberos *kerberos, const char *name, openings_take *take,
-              void *given)
+enum answer openings_find(struct store *store, struct kerberos *kerberos, const char *name, openings_take *take,
+                          void *given)
 {
     const struct value value = text_value(name);
     struct reading r = { .kerberos = kerberos, .take = take, .given = given };
@@ -86,7 +86,7 @@ int openings_find(struct store *store, struct kerberos *kerberos, const char *na
 /* A session that begins, and what a row of the store makes of that. */
 struct judged { const struct opened *of; enum opening_answer answer; };
 
-static int compare_row(void *given, const char *const *row)
+static enum answer compare_row(void *given, const char *const *row)
 {
     struct judged *judged = given;
     const struct opened *of = judged->of;
@@ -95,7 +95,7 @@ static int compare_row(void *given, const char *const *row)
         judged->answer = OPENING_FORKED;
     else if (!of->says_shard && strtoul(row[4], NULL, 10) != of->shard && judged->answer == OPENING_OK)
         judged->answer = OPENING_ELSEWHERE;
-    return 0;
+    return ANSWER_DONE;
 }
 
 enum opening_answer openings_judge(struct store *store, const struct opened *it)
@@ -103,15 +103,15 @@ enum opening_answer openings_judge(struct store *store, const struct opened *it)
     const struct value values[] = { text_value(it->client), text_value(it->stream), text_value(it->before),
                                     text_value(it->name) };
     struct judged judged = { it, OPENING_OK };
-    int answer = store->ask(store, "SELECT name, client, stream, before, shard FROM opened WHERE"
+    enum answer answer = store->ask(store, "SELECT name, client, stream, before, shard FROM opened WHERE"
                                   " (client = $1 AND stream = $2 AND before = $3) OR name = $4",
                            values, 4, compare_row, &judged);
-    return answer == 0 ? judged.answer : OPENING_FAULT;
+    return answer == ANSWER_DONE ? judged.answer : OPENING_FAULT;
 }
 
 /* ---- Rows that are written */
 
-static int add_row(struct store *store, const struct opened *it, const struct wrapped *wrapped)
+static enum answer add_row(struct store *store, const struct opened *it, const struct wrapped *wrapped)
 {
     char key[2 * KEY_WRAPPING_BYTES + 1], history[HISTORY_TEXT];
     history_write(&it->closed, history);
@@ -136,55 +136,55 @@ static int wrap(struct kerberos *kerberos, const struct opened *it, struct wrapp
     return key_wrap(kerberos, KEY_WRAPPING_RECEIVER, about, it->key, it->key_len, wrapped);
 }
 
-int openings_add(struct store *store, struct kerberos *kerberos, const struct opened *it)
+enum answer openings_add(struct store *store, struct kerberos *kerberos, const struct opened *it)
 {
     struct wrapped wrapped;
-    return wrap(kerberos, it, &wrapped) == 0 ? add_row(store, it, &wrapped) : -1;
+    return wrap(kerberos, it, &wrapped) == 0 ? add_row(store, it, &wrapped) : ANSWER_FAULT;
 }
 
 /* Some sessions whose keys are to be wrapped anew. */
 struct some { size_t count; struct opened at[TOGETHER]; };
 
-static int note_some(void *given, const struct opened *it)
+static enum answer note_some(void *given, const struct opened *it)
 {
     struct some *some = given;
     some->at[some->count++] = *it;
-    return 0;
+    return ANSWER_DONE;
 }
 
-static int wrap_again(struct store *store, struct kerberos *kerberos, const struct opened *it)
+static enum answer wrap_again(struct store *store, struct kerberos *kerberos, const struct opened *it)
 {
     struct wrapped wrapped;
     char key[2 * KEY_WRAPPING_BYTES + 1];
     if (wrap(kerberos, it, &wrapped) != 0)
-        return -1;
+        return ANSWER_FAULT;
     write_hex(wrapped.bytes, wrapped.len, key);
     const struct value values[] = { number_value(wrapped.kvno), number_value((uint64_t)wrapped.etype),
                                     text_value(key), text_value(it->name) };
     return store_run(store, "UPDATE opened SET kvno = $1, wrapping = $2, key = $3 WHERE name = $4", values, 4);
 }
 
-static int wrap_some(struct store *store, struct kerberos *kerberos, const struct some *some)
+static enum answer wrap_some(struct store *store, struct kerberos *kerberos, const struct some *some)
 {
     size_t i;
     for (i = 0; i < some->count; i++)
-        if (wrap_again(store, kerberos, &some->at[i]) != 0)
-            return -1;
+        if (wrap_again(store, kerberos, &some->at[i]) != ANSWER_DONE)
+            return ANSWER_FAULT;
     return store->settle(store);
 }
 
-int openings_wrap_anew(struct store *store, struct kerberos *kerberos, unsigned shard)
+enum answer openings_wrap_anew(struct store *store, struct kerberos *kerberos, unsigned shard)
 {
     struct some *some = malloc(sizeof *some);
     struct reading r = { .kerberos = kerberos, .take = note_some, .given = some, .rows = TOGETHER };
     uint32_t kvno;
-    int answer = some != NULL ? key_newest(kerberos, &kvno) : -1;
-    while (answer == 0 && r.rows == TOGETHER) {
+    enum answer answer = some != NULL && key_newest(kerberos, &kvno) == 0 ? ANSWER_DONE : ANSWER_FAULT;
+    while (answer == ANSWER_DONE && r.rows == TOGETHER) {
         const struct value values[] = { number_value(shard), number_value(kvno), text_value(r.last) };
         r.rows = some->count = 0;
         answer = store->ask(store, "SELECT " COLUMNS " FROM opened WHERE shard = $1 AND kvno <> $2"
                                   " AND name > $3 ORDER BY name LIMIT 64", values, 3, read_row, &r);
-        if (answer == 0)
+        if (answer == ANSWER_DONE)
             answer = wrap_some(store, kerberos, some);
         explicit_bzero(some, sizeof *some);
     }

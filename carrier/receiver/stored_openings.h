@@ -10,12 +10,12 @@
 #include "opening.h"
 #include "store.h"
 
-typedef int openings_take(void *given, const struct opened *it);
+typedef enum answer openings_take(void *given, const struct opened *it);
 
-/* Passes the session of this name, if there is one, to a function. What that doesn't answer 0 ends it, with -1,
- * as a fault does. A key that can't be read is such a fault: is the keytab there? */
-int openings_find(struct store *store, struct kerberos *kerberos, const char *name, openings_take *take,
-              void *given);
+/* Passes the session of this name, if there is one, to a function. What that doesn't answer DONE ends it, as a
+ * fault does. A key that can't be read is such a fault: is the keytab there? */
+enum answer openings_find(struct store *store, struct kerberos *kerberos, const char *name, openings_take *take,
+                          void *given);
 
 /* Whether what the store has lets a session begin: OPENING_OK, OPENING_FORKED if the client's stream has another
  * session at this place, OPENING_ELSEWHERE if it has this one in another shard, and its opening doesn't say the shard,
@@ -23,10 +23,10 @@ int openings_find(struct store *store, struct kerberos *kerberos, const char *na
 enum opening_answer openings_judge(struct store *store, const struct opened *it);
 
 /* Within a transaction: adds it. */
-int openings_add(struct store *store, struct kerberos *kerberos, const struct opened *it);
+enum answer openings_add(struct store *store, struct kerberos *kerberos, const struct opened *it);
 
-/* Outside of one: wraps the keys of a shard's sessions that aren't wrapped under the newest key. 0,
- * or -1 after a fault. */
-int openings_wrap_anew(struct store *store, struct kerberos *kerberos, unsigned shard);
+/* Outside of one: wraps the keys of a shard's sessions that aren't wrapped under the newest
+ * key. */
+enum answer openings_wrap_anew(struct store *store, struct kerberos *kerberos, unsigned shard);
 
 #endif

@@ -12,10 +12,10 @@
 
 enum { LOOKED = 2048 }; /* texts of one pass */
 
-static int tell_unknown(struct sender *s, const char *session)
+static enum answer tell_unknown(struct sender *s, const char *session)
 {
     if (strncmp(s->unknown, session, sizeof s->unknown - 1) == 0)
-        return 0;
+        return ANSWER_DONE;
     copy_cut(s->unknown, sizeof s->unknown, session);
     return sender_tell_stopped(s, session, s->kerberos == NULL
                                ? "it has texts, and no line among the sessions"
@@ -34,13 +34,13 @@ static void note_run(struct runs *runs, sqlite3_int64 id, int goes_on)
     runs->at[runs->count - 1].last = id;
 }
 
-static enum seal_answer drop(struct sender *s, const struct runs *runs)
+static enum answer drop(struct sender *s, const struct runs *runs)
 {
     size_t i;
     for (i = 0; i < runs->count; i++)
-        if (outbox_drop_texts(&s->outbox, runs->at[i].first, runs->at[i].last) != 0)
-            return SEAL_FAULT;
-    return SEAL_OK;
+        if (outbox_drop_texts(&s->outbox, runs->at[i].first, runs->at[i].last) != ANSWER_DONE)
+            return ANSWER_FAULT;
+    return ANSWER_DONE;
 }
 
 /* Whether one text more of a session fits into the frames for which it has room. */
@@ -51,21 +51,21 @@ static int has_room(const struct sender *s, const struct sending *it)
 }
 
 /* Takes a text, if its turn is now: *is_taken says so. */
-static enum seal_answer take(struct sender *s, struct sending **it, const struct waiting_text *text,
-                             int *is_taken)
+static enum answer take(struct sender *s, struct sending **it, const struct waiting_text *text,
+                        int *is_taken)
 {
-    enum seal_answer answer;
+    enum answer answer;
     *is_taken = has_room(s, *it);
     if (!*is_taken) {
         (*it)->has_texts = 1;
-        return SEAL_OK;
+        return ANSWER_DONE;
     }
-    if ((*it)->is_unread && sender_read_history(s, *it) != 0)
-        return SEAL_FAULT;
+    if ((*it)->is_unread && sender_read_history(s, *it) != ANSWER_DONE)
+        return ANSWER_FAULT;
     list_add(&s->touched, *it, &(*it)->is_touched);
     if (text->body != NULL && sender_is_old(s, *it)) {
         answer = sender_renew(s, it, text->id);
-        if (answer != SEAL_OK)
+        if (answer != ANSWER_DONE)
             return answer;
         list_add(&s->touched, *it, &(*it)->is_touched);
     }
@@ -80,31 +80,32 @@ static int is_left(const struct sending *it, const struct waiting_text *text)
 
 /* ---- Texts that are new */
 
-static enum seal_answer look_at(struct sender *s, const struct waiting_text *text, struct sending **it,
-                                int *is_taken)
+static enum answer look_at(struct sender *s, const struct waiting_text *text, struct sending **it,
+                           int *is_taken)
 {
-    int found = sender_find(s, text->session, it);
+    enum answer found = sender_find(s, text->session, it);
     *is_taken = 0;
-    if (found < 0)
-        return SEAL_FAULT;
-    if (found == 0)
-        return tell_unknown(s, text->session) == 0 ? SEAL_OK : SEAL_FAULT;
+    if (found == ANSWER_FAULT)
+        return ANSWER_FAULT;
+    if (found == ANSWER_DONE)
+        return tell_unknown(s, text->session) == ANSWER_DONE ? ANSWER_DONE : ANSWER_FAULT;
     if ((*it)->has_texts || is_left(*it, text))
-        return SEAL_OK;
+        return ANSWER_DONE;
     return take(s, it, text, is_taken);
 }
 
 /* Looks at the texts after those that were looked at. */
-static enum seal_answer take_new(struct sender *s)
+static enum answer take_new(struct sender *s)
 {
     struct statement *select = outbox_select_texts(&s->outbox, s->seen, LOOKED);
     struct sending *it;
     struct runs runs = { .count = 0 };
     struct waiting_text text = { .id = 0 };
-    enum seal_answer answer = SEAL_OK;
+    enum answer answer = ANSWER_DONE;
     sqlite3_int64 last = s->seen;
-    int row = 0, is_taken = 0;
-    while (answer == SEAL_OK && (row = outbox_next_text(select, &text)) == 1) {
+    int is_taken = 0;
+    enum answer row = ANSWER_DONE;
+    while (answer == ANSWER_DONE && (row = outbox_next_text(select, &text)) == ANSWER_FOUND) {
         int was_taken = is_taken;
         answer = look_at(s, &text, &it, &is_taken);
         if (is_taken)
@@ -112,28 +113,29 @@ static enum seal_answer take_new(struct sender *s)
         last = text.id;
     }
     end_rows(select);
-    if (answer != SEAL_OK)
+    if (answer != ANSWER_DONE)
         return answer;
     s->seen = last;
-    return row < 0 ? SEAL_FAULT : drop(s, &runs);
+    return row == ANSWER_FAULT ? ANSWER_FAULT : drop(s, &runs);
 }
 
 /* ---- Texts that wait */
 
 /* Takes the oldest texts of a session, while it has room: so many were looked at. If its stream goes on with its
  * next session, the rest is that one's. */
-static enum seal_answer take_waiting(struct sender *s, struct sending **it, size_t *looked)
+static enum answer take_waiting(struct sender *s, struct sending **it, size_t *looked)
 {
     const char *name = (*it)->stream != NULL ? (*it)->stream->name : (*it)->of.name;
     struct statement *select = outbox_select_waiting(&s->outbox, name, s->seen, LOOKED - *looked);
     struct runs runs = { .count = 0 };
     struct waiting_text text = { .id = 0 };
-    enum seal_answer answer = SEAL_OK;
+    enum answer answer = ANSWER_DONE;
     sqlite3_int64 last = -1;
-    int row = 0, is_taken = 1;
+    int is_taken = 1;
+    enum answer row = ANSWER_DONE;
     list_add(&s->touched, *it, &(*it)->is_touched); /* whatever comes of it: intake_give_up has its texts wait again */
     (*it)->has_texts = 0;
-    while (answer == SEAL_OK && is_taken && (row = outbox_next_text(select, &text)) == 1) {
+    while (answer == ANSWER_DONE && is_taken && (row = outbox_next_text(select, &text)) == ANSWER_FOUND) {
         if (is_left(*it, &text))
             break;
         answer = take(s, it, &text, &is_taken);
@@ -143,11 +145,11 @@ static enum seal_answer take_waiting(struct sender *s, struct sending **it, size
         ++*looked;
     }
     end_rows(select);
-    if (answer != SEAL_OK)
+    if (answer != ANSWER_DONE)
         return answer;
     if (*looked == LOOKED)
         (*it)->has_texts = 1;
-    return row < 0 ? SEAL_FAULT : drop(s, &runs);
+    return row == ANSWER_FAULT ? ANSWER_FAULT : drop(s, &runs);
 }
 
 /* The session that texts under the name of this one are for now: that of a stream may have changed. */
@@ -159,11 +161,11 @@ static struct sending *now_of(struct sending *it)
 }
 
 /* Takes texts of the sessions that have room again, in their turn. */
-static enum seal_answer take_sealable(struct sender *s)
+static enum answer take_sealable(struct sender *s)
 {
-    enum seal_answer answer = SEAL_OK;
+    enum answer answer = ANSWER_DONE;
     size_t i, kept = 0, looked = 0, count = s->sealable.count;
-    for (i = 0; i < count && answer == SEAL_OK && looked < LOOKED; i++) {
+    for (i = 0; i < count && answer == ANSWER_DONE && looked < LOOKED; i++) {
         struct sending *it = s->sealable.at[i];
         it->is_sealable = 0;
         it = now_of(it);
@@ -181,10 +183,10 @@ int intake_wait(struct sender *s)
     return s->sealable.count > 0 || outbox_may_have_text(&s->outbox, s->seen);
 }
 
-enum seal_answer intake_take(struct sender *s)
+enum answer intake_take(struct sender *s)
 {
-    enum seal_answer answer = take_sealable(s);
-    return answer == SEAL_OK ? take_new(s) : answer;
+    enum answer answer = take_sealable(s);
+    return answer == ANSWER_DONE ? take_new(s) : answer;
 }
 
 void intake_give_up(struct sender *s, sqlite3_int64 seen)

@@ -138,14 +138,14 @@ static const char *const rows_sql[OUTBOX_ROWS] = {
     [ADD_SEALED] = "INSERT INTO sealed (text, session, number, part, put) VALUES (?, ?, ?, ?, ?)",
 };
 
-/* The number that a question has for its answer, 0 if there is none; or -1 after a fault. */
-static int read_number(struct outbox *o, enum outbox_statement question, uint64_t *number)
+/* The number that a question has for its answer, 0 if there is none. */
+static enum answer read_number(struct outbox *o, enum outbox_statement question, uint64_t *number)
 {
     struct statement *select = &o->statements[question];
-    int row = step_row(select);
-    *number = row == 1 ? (uint64_t)sqlite3_column_int64(select->at, 0) : 0;
+    enum answer row = step_row(select);
+    *number = row == ANSWER_FOUND ? (uint64_t)sqlite3_column_int64(select->at, 0) : 0;
     end_rows(select);
-    return row >= 0 ? 0 : -1;
+    return row != ANSWER_FAULT ? ANSWER_DONE : ANSWER_FAULT;
 }
 
 /* ---- How long texts took */
@@ -192,15 +192,15 @@ static int add_function(struct outbox *o)
 
 /* ---- */
 
-static int complete(struct outbox *o)
+static enum answer complete(struct outbox *o)
 {
-    if (begin_writing(o->db) != 0)
-        return -1;
-    if (add_columns(o->db, columns, sizeof columns / sizeof *columns) == 0
-        && run(o->db, "COMMIT") == 0)
-        return 0;
+    if (begin_writing(o->db) != ANSWER_DONE)
+        return ANSWER_FAULT;
+    if (add_columns(o->db, columns, sizeof columns / sizeof *columns) == ANSWER_DONE
+        && run(o->db, "COMMIT") == ANSWER_DONE)
+        return ANSWER_DONE;
     outbox_rollback(o);
-    return -1;
+    return ANSWER_FAULT;
 }
 
 int outbox_is_there(const struct outbox *o)
@@ -213,27 +213,27 @@ int outbox_is_there(const struct outbox *o)
     return 0;
 }
 
-int outbox_open(struct outbox *o, const char *path)
+enum answer outbox_open(struct outbox *o, const char *path)
 {
     memset(o, 0, sizeof *o);
     if (!copy_text(o->path, sizeof o->path, path)) {
         log_fact(LEVEL_ERROR, "outbox_name_too_long", field_text("file", path));
-        return -1;
+        return ANSWER_FAULT;
     }
     o->db = open_database(path, tables);
-    if (o->db == NULL || find_file(path, &o->device, &o->inode) != 0 || complete(o) != 0
+    if (o->db == NULL || find_file(path, &o->device, &o->inode) != 0 || complete(o) != ANSWER_DONE
         || add_function(o) != 0
-        || prepare_all(o->db, o->statements, sql, OUTBOX_STATEMENTS) != 0
-        || prepare_rows(o->db, &o->rows[ADD_FRAME], rows_sql[ADD_FRAME]) != 0
-        || prepare_rows(o->db, &o->rows[ADD_SEALED], rows_sql[ADD_SEALED]) != 0)
-        return -1;
-    if (begin_writing(o->db) != 0 || run(o->db, "UPDATE owner SET turn = turn + 1") != 0
-        || outbox_drop_stopped(o) != 0)
-        return -1;
-    return read_number(o, SELECT_OWNER, &o->turn) == 0 && o->turn > 0 ? run(o->db, "COMMIT") : -1;
+        || prepare_all(o->db, o->statements, sql, OUTBOX_STATEMENTS) != ANSWER_DONE
+        || prepare_rows(o->db, &o->rows[ADD_FRAME], rows_sql[ADD_FRAME]) != ANSWER_DONE
+        || prepare_rows(o->db, &o->rows[ADD_SEALED], rows_sql[ADD_SEALED]) != ANSWER_DONE)
+        return ANSWER_FAULT;
+    if (begin_writing(o->db) != ANSWER_DONE || run(o->db, "UPDATE owner SET turn = turn + 1") != ANSWER_DONE
+        || outbox_drop_stopped(o) != ANSWER_DONE)
+        return ANSWER_FAULT;
+    return read_number(o, SELECT_OWNER, &o->turn) == ANSWER_DONE && o->turn > 0 ? run(o->db, "COMMIT") : ANSWER_FAULT;
 }
 
-int outbox_bound(struct outbox *o, unsigned texts)
+enum answer outbox_bound(struct outbox *o, unsigned texts)
 {
     char text[64];
     write_whole(text, sizeof text, "UPDATE bound SET texts = %u", texts);
@@ -248,17 +248,17 @@ void outbox_close(struct outbox *o)
     close_database(o->db);
 }
 
-int outbox_load(struct outbox *o, const struct session *session, struct outbox_progress *it)
+enum answer outbox_load(struct outbox *o, const struct session *session, struct outbox_progress *it)
 {
     struct statement *select = &o->statements[LOAD_SESSION];
     const char *history;
-    int row;
+    enum answer row;
     bind_text(select, 1, session->name);
     row = step_row(select);
     *it = (struct outbox_progress){ session->first, session->first - session->has_opening, 0, 0,
                                     session->first - session->has_opening,
                                     (int32_t)session->shard, KRBRELAY_STANDS_NOT, { .is_known = 0 } };
-    if (row == 1) {
+    if (row == ANSWER_FOUND) {
         it->next = (uint64_t)sqlite3_column_int64(select->at, 0);
         it->carried = (uint64_t)sqlite3_column_int64(select->at, 1);
         it->at = (uint64_t)sqlite3_column_int64(select->at, 2);
@@ -268,103 +268,104 @@ int outbox_load(struct outbox *o, const struct session *session, struct outbox_p
         history = (const char *)sqlite3_column_text(select->at, 6);
         it->stands = (uint32_t)sqlite3_column_int(select->at, 7);
         if (history == NULL)
-            row = -1; /* there was no memory for it */
+            row = ANSWER_FAULT; /* there was no memory for it */
         else
             history_read(&it->history, history);
     }
     if (it->done <= session->first) /* no frame: an opening is none of them */
         it->history = (struct history){ .is_known = 1 };
     end_rows(select);
-    return row >= 0 ? 0 : -1;
+    return row != ANSWER_FAULT ? ANSWER_DONE : ANSWER_FAULT;
 }
 
 /* Passes each name that a statement gives. */
-static int pass_names(struct statement *select, outbox_take *take, void *given)
+static enum answer pass_names(struct statement *select, outbox_take *take, void *given)
 {
-    int row, answer = 0;
-    while (answer == 0 && (row = step_row(select)) != 0) {
-        const char *name = row == 1 ? (const char *)sqlite3_column_text(select->at, 0) : NULL;
-        answer = name == NULL || take(given, name) != 0 ? -1 : 0;
+    enum answer answer = ANSWER_DONE;
+    enum answer row;
+    while (answer == ANSWER_DONE && (row = step_row(select)) != ANSWER_DONE) {
+        const char *name = row == ANSWER_FOUND ? (const char *)sqlite3_column_text(select->at, 0) : NULL;
+        answer = name == NULL || take(given, name) != 0 ? ANSWER_FAULT : ANSWER_DONE;
     }
     end_rows(select);
     return answer;
 }
 
-int outbox_sessions(struct outbox *o, outbox_take *take, void *given)
+enum answer outbox_sessions(struct outbox *o, outbox_take *take, void *given)
 {
     return pass_names(&o->statements[SELECT_SENDING], take, given);
 }
 
-int outbox_stops(struct outbox *o, outbox_take *take, void *given)
+enum answer outbox_stops(struct outbox *o, outbox_take *take, void *given)
 {
     return pass_names(&o->statements[SELECT_STOPS], take, given);
 }
 
 int outbox_may_have_text(struct outbox *o, sqlite3_int64 after)
 {
-    int row;
+    enum answer row;
     bind_number(&o->statements[HAS_TEXT], 1, after);
     row = step_row(&o->statements[HAS_TEXT]);
     end_rows(&o->statements[HAS_TEXT]);
-    return row != 0;
+    return row != ANSWER_DONE;
 }
 
-int outbox_count_texts(struct outbox *o, uint64_t *count)
+enum answer outbox_count_texts(struct outbox *o, uint64_t *count)
 {
     return read_number(o, COUNT_TEXTS, count);
 }
 
-int outbox_oldest_text(struct outbox *o, int *is_there, uint64_t *second)
+enum answer outbox_oldest_text(struct outbox *o, int *is_there, uint64_t *second)
 {
     struct statement *select = &o->statements[OLDEST_TEXT];
-    int row = step_row(select);
-    *is_there = row == 1;
-    *second = row == 1 ? (uint64_t)sqlite3_column_int64(select->at, 0) : 0;
+    enum answer row = step_row(select);
+    *is_there = row == ANSWER_FOUND;
+    *second = row == ANSWER_FOUND ? (uint64_t)sqlite3_column_int64(select->at, 0) : 0;
     end_rows(select);
-    return row >= 0 ? 0 : -1;
+    return row != ANSWER_FAULT ? ANSWER_DONE : ANSWER_FAULT;
 }
 
-int outbox_count_stopped(struct outbox *o, uint64_t *count)
+enum answer outbox_count_stopped(struct outbox *o, uint64_t *count)
 {
     return read_number(o, COUNT_STOPPED, count);
 }
 
-int outbox_renewed(struct outbox *o, uint64_t *second)
+enum answer outbox_renewed(struct outbox *o, uint64_t *second)
 {
     return read_number(o, SELECT_RENEWED, second);
 }
 
-enum outbox_answer outbox_owned(struct outbox *o)
+enum answer outbox_owned(struct outbox *o)
 {
     uint64_t turn;
-    if (read_number(o, SELECT_OWNER, &turn) != 0)
-        return OUTBOX_AGAIN;
-    return turn == o->turn ? OUTBOX_OK : OUTBOX_TAKEN;
+    if (read_number(o, SELECT_OWNER, &turn) != ANSWER_DONE)
+        return ANSWER_AGAIN;
+    return turn == o->turn ? ANSWER_DONE : ANSWER_TAKEN;
 }
 
 /* ---- A transaction */
 
-enum outbox_answer outbox_begin(struct outbox *o)
+enum answer outbox_begin(struct outbox *o)
 {
-    enum outbox_answer owned;
-    if (begin_writing(o->db) != 0)
-        return OUTBOX_AGAIN;
+    enum answer owned;
+    if (begin_writing(o->db) != ANSWER_DONE)
+        return ANSWER_AGAIN;
     owned = outbox_owned(o);
-    if (owned != OUTBOX_OK)
+    if (owned != ANSWER_DONE)
         outbox_rollback(o);
     return owned;
 }
 
-enum outbox_answer outbox_set_renewed(struct outbox *o, uint64_t second)
+enum answer outbox_set_renewed(struct outbox *o, uint64_t second)
 {
-    enum outbox_answer begun = outbox_begin(o);
-    if (begun != OUTBOX_OK)
+    enum answer begun = outbox_begin(o);
+    if (begun != ANSWER_DONE)
         return begun;
     bind_number(&o->statements[SET_RENEWED], 1, (sqlite3_int64)second);
-    if (step_once(&o->statements[SET_RENEWED]) == 0 && outbox_commit(o) == 0)
-        return OUTBOX_OK;
+    if (step_once(&o->statements[SET_RENEWED]) == ANSWER_DONE && outbox_commit(o) == ANSWER_DONE)
+        return ANSWER_DONE;
     outbox_rollback(o);
-    return OUTBOX_AGAIN;
+    return ANSWER_AGAIN;
 }
 
 struct statement *outbox_select_texts(struct outbox *o, sqlite3_int64 after, size_t limit)
@@ -375,21 +376,21 @@ struct statement *outbox_select_texts(struct outbox *o, sqlite3_int64 after, siz
     return select;
 }
 
-int outbox_next_text(struct statement *select, struct waiting_text *text)
+enum answer outbox_next_text(struct statement *select, struct waiting_text *text)
 {
-    int row = step_row(select);
-    if (row != 1)
+    enum answer row = step_row(select);
+    if (row != ANSWER_FOUND)
         return row;
     text->id = sqlite3_column_int64(select->at, 0);
     text->session = (const char *)sqlite3_column_text(select->at, 1);
     text->body = sqlite3_column_blob(select->at, 2);
     text->len = (size_t)sqlite3_column_bytes(select->at, 2);
     text->put = sqlite3_column_int64(select->at, 3);
-    if (check_columns(select) != 0)
-        return -1;
+    if (check_columns(select) != ANSWER_DONE)
+        return ANSWER_FAULT;
     if (text->body == NULL && sqlite3_column_type(select->at, 2) != SQLITE_NULL)
         text->body = (const uint8_t *)""; /* a text of no bytes isn't the close */
-    return text->session != NULL ? 1 : -1;
+    return text->session != NULL ? ANSWER_FOUND : ANSWER_FAULT;
 }
 
 struct statement *outbox_select_waiting(struct outbox *o, const char *name, sqlite3_int64 to, size_t limit)
@@ -401,15 +402,15 @@ struct statement *outbox_select_waiting(struct outbox *o, const char *name, sqli
     return select;
 }
 
-int outbox_drop_texts(struct outbox *o, sqlite3_int64 first, sqlite3_int64 last)
+enum answer outbox_drop_texts(struct outbox *o, sqlite3_int64 first, sqlite3_int64 last)
 {
     bind_number(&o->statements[DROP_TEXTS], 1, first);
     bind_number(&o->statements[DROP_TEXTS], 2, last);
     return step_once(&o->statements[DROP_TEXTS]);
 }
 
-int outbox_add_frame(struct outbox *o, const char *session, uint64_t number, const uint8_t *frame,
-                     size_t len, const struct history *history)
+enum answer outbox_add_frame(struct outbox *o, const char *session, uint64_t number, const uint8_t *frame,
+                             size_t len, const struct history *history)
 {
     struct rows *add = &o->rows[ADD_FRAME];
     int at = next_row(add);
@@ -420,8 +421,8 @@ int outbox_add_frame(struct outbox *o, const char *session, uint64_t number, con
     return add_row(add);
 }
 
-int outbox_add_sealed(struct outbox *o, const struct waiting_text *text, const char *session,
-                      uint64_t number, unsigned part)
+enum answer outbox_add_sealed(struct outbox *o, const struct waiting_text *text, const char *session,
+                              uint64_t number, unsigned part)
 {
     struct rows *add = &o->rows[ADD_SEALED];
     int at = next_row(add);
@@ -433,39 +434,40 @@ int outbox_add_sealed(struct outbox *o, const struct waiting_text *text, const c
     return add_row(add);
 }
 
-int outbox_insert(struct outbox *o)
+enum answer outbox_insert(struct outbox *o)
 {
-    return insert_rows(&o->rows[ADD_FRAME]) == 0 && insert_rows(&o->rows[ADD_SEALED]) == 0 ? 0 : -1;
+    return insert_rows(&o->rows[ADD_FRAME]) == ANSWER_DONE && insert_rows(&o->rows[ADD_SEALED]) == ANSWER_DONE
+           ? ANSWER_DONE : ANSWER_FAULT;
 }
 
-int outbox_set_next(struct outbox *o, const struct session *session, uint64_t from, uint64_t to)
+enum answer outbox_set_next(struct outbox *o, const struct session *session, uint64_t from, uint64_t to)
 {
     struct statement *move = &o->statements[MOVE_NEXT], *set = &o->statements[SET_NEXT];
     bind_number(move, 1, (sqlite3_int64)to);
     bind_text(move, 2, session->name);
     bind_number(move, 3, (sqlite3_int64)from);
-    if (step_once(move) != 0)
-        return -1;
+    if (step_once(move) != ANSWER_DONE)
+        return ANSWER_FAULT;
     if (sqlite3_changes(o->db) == 1)
-        return 0;
+        return ANSWER_DONE;
     bind_number(set, 1, (sqlite3_int64)to);
     bind_text(set, 2, session->name);
     bind_number(set, 3, (sqlite3_int64)from);
     bind_number(set, 4, session->shard);
     bind_number(set, 5, session->first - session->has_opening);
     bind_number(set, 6, session->first);
-    return step_once(set) == 0 && sqlite3_changes(o->db) == 1 ? 0 : -1;
+    return step_once(set) == ANSWER_DONE && sqlite3_changes(o->db) == 1 ? ANSWER_DONE : ANSWER_FAULT;
 }
 
 /* Deletes what the outbox has of a session below a number. */
-static int drop_below(struct statement *drop, const char *session, uint64_t number)
+static enum answer drop_below(struct statement *drop, const char *session, uint64_t number)
 {
     bind_text(drop, 1, session);
     bind_number(drop, 2, (sqlite3_int64)number);
     return step_once(drop);
 }
 
-int outbox_set_carried(struct outbox *o, const char *session, const struct outbox_progress *it)
+enum answer outbox_set_carried(struct outbox *o, const char *session, const struct outbox_progress *it)
 {
     struct statement *set = &o->statements[SET_CARRIED];
     char history[HISTORY_TEXT];
@@ -480,15 +482,15 @@ int outbox_set_carried(struct outbox *o, const char *session, const struct outbo
     return step_once(set);
 }
 
-int outbox_drop_done(struct outbox *o, const char *session, uint64_t done)
+enum answer outbox_drop_done(struct outbox *o, const char *session, uint64_t done)
 {
     o->clock = read_clock();
-    return drop_below(&o->statements[DROP_FRAMES], session, done) == 0
-                   && drop_below(&o->statements[DROP_SEALED], session, done) == 0
-               ? 0 : -1;
+    return drop_below(&o->statements[DROP_FRAMES], session, done) == ANSWER_DONE
+                   && drop_below(&o->statements[DROP_SEALED], session, done) == ANSWER_DONE
+               ? ANSWER_DONE : ANSWER_FAULT;
 }
 
-int outbox_add_stopped(struct outbox *o, const char *session, const char *reason, uint64_t since)
+enum answer outbox_add_stopped(struct outbox *o, const char *session, const char *reason, uint64_t since)
 {
     struct statement *add = &o->statements[ADD_STOPPED];
     bind_text(add, 1, session);
@@ -497,7 +499,7 @@ int outbox_add_stopped(struct outbox *o, const char *session, const char *reason
     return step_once(add);
 }
 
-int outbox_set_stop(struct outbox *o, const struct session *session, const struct stop *stop)
+enum answer outbox_set_stop(struct outbox *o, const struct session *session, const struct stop *stop)
 {
     struct statement *add = &o->statements[ADD_PROGRESS], *set = &o->statements[SET_STOP];
     bind_text(add, 1, session->name);
@@ -506,46 +508,46 @@ int outbox_set_stop(struct outbox *o, const struct session *session, const struc
     bind_number(add, 4, session->shard);
     bind_bytes(set, 1, stop->receipt, stop->len);
     bind_text(set, 2, session->name);
-    return step_once(add) == 0 ? step_once(set) : -1;
+    return step_once(add) == ANSWER_DONE ? step_once(set) : ANSWER_FAULT;
 }
 
-int outbox_find_stop(struct outbox *o, const char *session, struct stop *stop)
+enum answer outbox_find_stop(struct outbox *o, const char *session, struct stop *stop)
 {
     struct statement *select = &o->statements[SELECT_STOP];
-    int row;
+    enum answer row;
     *stop = (struct stop){ .len = 0 };
     bind_text(select, 1, session);
     row = step_row(select);
-    if (row == 1 && sqlite3_column_bytes(select->at, 0) <= RECEIPT) {
+    if (row == ANSWER_FOUND && sqlite3_column_bytes(select->at, 0) <= RECEIPT) {
         const void *receipt = sqlite3_column_blob(select->at, 0);
         stop->len = (size_t)sqlite3_column_bytes(select->at, 0);
         if (receipt != NULL)
             memcpy(stop->receipt, receipt, stop->len);
-        row = check_columns(select) == 0 ? row : -1;
+        row = check_columns(select) == ANSWER_DONE ? row : ANSWER_FAULT;
         stop->since = (uint64_t)sqlite3_column_int64(select->at, 1);
     }
     end_rows(select);
-    return row >= 0 ? 0 : -1;
+    return row != ANSWER_FAULT ? ANSWER_DONE : ANSWER_FAULT;
 }
 
-int outbox_end_stopped(struct outbox *o, const char *session)
+enum answer outbox_end_stopped(struct outbox *o, const char *session)
 {
     bind_text(&o->statements[END_STOPPED], 1, session);
     return step_once(&o->statements[END_STOPPED]);
 }
 
-int outbox_drop_stopped(struct outbox *o)
+enum answer outbox_drop_stopped(struct outbox *o)
 {
     return step_once(&o->statements[DROP_STOPPED]);
 }
 
-int outbox_commit(struct outbox *o)
+enum answer outbox_commit(struct outbox *o)
 {
-    if (outbox_insert(o) != 0 || run(o->db, "COMMIT") != 0)
-        return -1;
+    if (outbox_insert(o) != ANSWER_DONE || run(o->db, "COMMIT") != ANSWER_DONE)
+        return ANSWER_FAULT;
     join_delays(&o->delays, &o->taken);
     o->taken = (struct delays){ .seconds = 0 };
-    return 0;
+    return ANSWER_DONE;
 }
 
 void outbox_rollback(struct outbox *o)
@@ -567,16 +569,16 @@ void outbox_select_frames(struct outbox *o, const char *session, uint64_t from,
     bind_number(select, 3, limit);
 }
 
-int outbox_next_frame(struct outbox *o, uint64_t *number, const uint8_t **frame, size_t *len)
+enum answer outbox_next_frame(struct outbox *o, uint64_t *number, const uint8_t **frame, size_t *len)
 {
     struct statement *select = &o->statements[SELECT_FRAMES];
-    int row = step_row(select);
-    if (row != 1)
+    enum answer row = step_row(select);
+    if (row != ANSWER_FOUND)
         return row;
     *number = (uint64_t)sqlite3_column_int64(select->at, 0);
     *frame = sqlite3_column_blob(select->at, 1);
     *len = (size_t)sqlite3_column_bytes(select->at, 1);
-    return *frame != NULL ? 1 : -1;
+    return *frame != NULL ? ANSWER_FOUND : ANSWER_FAULT;
 }
 
 void outbox_end_frames(struct outbox *o)
@@ -584,62 +586,61 @@ void outbox_end_frames(struct outbox *o)
     end_rows(&o->statements[SELECT_FRAMES]);
 }
 
-/* Adds the frames of a session from a number up to another: 0, or -1 after a fault. It isn't known where one of them
- * isn't there. */
-static int add_frames(struct outbox *o, const char *session, uint64_t from, uint64_t to,
-                      struct history *history)
+/* Adds the frames of a session from a number up to another. It isn't known where one of them isn't there. */
+static enum answer add_frames(struct outbox *o, const char *session, uint64_t from, uint64_t to,
+                              struct history *history)
 {
     const uint8_t *frame;
     uint64_t number;
     size_t len;
-    int row = 1;
+    enum answer row = ANSWER_FOUND;
     outbox_select_frames(o, session, from, UINT32_MAX);
-    while (row == 1 && history->is_known && from < to) {
+    while (row == ANSWER_FOUND && history->is_known && from < to) {
         row = outbox_next_frame(o, &number, &frame, &len);
-        if (row == 1 && number == from++)
-            row = history_add(history, frame, len) == 0 ? 1 : -1;
+        if (row == ANSWER_FOUND && number == from++)
+            row = history_add(history, frame, len) == 0 ? ANSWER_FOUND : ANSWER_FAULT;
         else
             history->is_known = 0;
     }
     outbox_end_frames(o);
-    return row >= 0 ? 0 : -1;
+    return row != ANSWER_FAULT ? ANSWER_DONE : ANSWER_FAULT;
 }
 
-/* The history beside a frame, which isn't known if there is none: 0, or -1 after a fault. */
-static int read_history(struct outbox *o, const char *session, uint64_t number, struct history *history)
+/* The history beside a frame, which isn't known if there is none. */
+static enum answer read_history(struct outbox *o, const char *session, uint64_t number, struct history *history)
 {
     struct statement *select = &o->statements[SELECT_HISTORY];
     const void *bytes = NULL;
-    int row;
+    enum answer row;
     bind_text(select, 1, session);
     bind_number(select, 2, (sqlite3_int64)number);
     row = step_row(select);
-    if (row == 1) {
+    if (row == ANSWER_FOUND) {
         bytes = sqlite3_column_blob(select->at, 0);
-        row = check_columns(select) == 0 ? row : -1;
+        row = check_columns(select) == ANSWER_DONE ? row : ANSWER_FAULT;
     }
     history->is_known = bytes != NULL && sqlite3_column_bytes(select->at, 0) == (int)sizeof history->bytes;
     if (history->is_known)
         memcpy(history->bytes, bytes, sizeof history->bytes);
     end_rows(select);
-    return row >= 0 ? 0 : -1;
+    return row != ANSWER_FAULT ? ANSWER_DONE : ANSWER_FAULT;
 }
 
-int outbox_history(struct outbox *o, const struct session *session, uint64_t from,
-                   const struct history *history, uint64_t to, struct history *found)
+enum answer outbox_history(struct outbox *o, const struct session *session, uint64_t from,
+                           const struct history *history, uint64_t to, struct history *found)
 {
     *found = (struct history){ .is_known = 1 };
     if (to <= session->first)
-        return 0; /* of no frames: an opening is none of them */
-    if (to > from && read_history(o, session->name, to - 1, found) != 0)
-        return -1;
+        return ANSWER_DONE; /* of no frames: an opening is none of them */
+    if (to > from && read_history(o, session->name, to - 1, found) != ANSWER_DONE)
+        return ANSWER_FAULT;
     if (to > from && found->is_known)
-        return 0;
+        return ANSWER_DONE;
     *found = *history;
     return add_frames(o, session->name, from > session->first ? from : session->first, to, found);
 }
 
-int outbox_set_stands(struct outbox *o, const char *session, uint32_t stands)
+enum answer outbox_set_stands(struct outbox *o, const char *session, uint32_t stands)
 {
     bind_number(&o->statements[SET_STANDS], 1, stands);
     bind_text(&o->statements[SET_STANDS], 2, session);

@@ -65,7 +65,12 @@ struct outbox {
     uint64_t device, inode;
 };
 
-enum outbox_answer { OUTBOX_OK = 0, OUTBOX_AGAIN = 1, OUTBOX_FAULT = -1, OUTBOX_TAKEN = -2 };
+
+/* Whether a sender ends after this answer. */
+static inline int outbox_is_lost(enum answer answer)
+{
+    return answer == ANSWER_FAULT || answer == ANSWER_TAKEN;
+}
 
 /* What waits: body is NULL for the close. `put` is when it was put in, in milliseconds since 1970, 0
  * if that isn't known. Valid until the next call. */
@@ -90,87 +95,87 @@ struct outbox_progress {
  * seconds since 1970. It counts as long as the session has its key: it doesn't open under another one. */
 struct stop { size_t len; uint8_t receipt[RECEIPT]; uint64_t since; };
 
-/* Opens it, makes its tables, and becomes its owner. 0, or -1 after a fault. */
-int outbox_open(struct outbox *outbox, const char *path);
+/* Opens it, makes its tables, and becomes its owner. */
+enum answer outbox_open(struct outbox *outbox, const char *path);
 void outbox_close(struct outbox *outbox);
 
-/* Has an insertion be refused while so many texts wait, in `text` or, for a receipt, in `sealed`; 0: any
- * number may wait. It stays so in the file until the next call. 0, or -1 after a fault. */
-int outbox_bound(struct outbox *outbox, unsigned texts);
+/* Has an insertion be refused while so many texts wait, in `text` or, for a receipt, in `sealed`; 0: any number may
+ * wait. It stays so in the file until the next call. */
+enum answer outbox_bound(struct outbox *outbox, unsigned texts);
 
 /* How far a session is: as its line says, if nothing of it was sealed yet. */
-int outbox_load(struct outbox *outbox, const struct session *session, struct outbox_progress *it);
+enum answer outbox_load(struct outbox *outbox, const struct session *session, struct outbox_progress *it);
 
 /* Passes each session that has frames, or that a receipt stopped, to a function. What that doesn't answer 0 ends it,
  * with -1. */
 typedef int outbox_take(void *given, const char *session);
-int outbox_sessions(struct outbox *outbox, outbox_take *take, void *given);
-int outbox_stops(struct outbox *outbox, outbox_take *take, void *given);
+enum answer outbox_sessions(struct outbox *outbox, outbox_take *take, void *given);
+enum answer outbox_stops(struct outbox *outbox, outbox_take *take, void *given);
 
-/* The receipt that stopped a session, of no bytes if none did. 0, or -1 after a fault. */
-int outbox_find_stop(struct outbox *outbox, const char *session, struct stop *stop);
+/* The receipt that stopped a session, of no bytes if none did. */
+enum answer outbox_find_stop(struct outbox *outbox, const char *session, struct stop *stop);
 
 /* Whether a text waits after this one, as far as that can be read: after a fault one may. */
 int outbox_may_have_text(struct outbox *outbox, sqlite3_int64 after);
 
-/* OUTBOX_OK, or OUTBOX_TAKEN: another process is the owner. OUTBOX_AGAIN: that can't be read now. */
-enum outbox_answer outbox_owned(struct outbox *outbox);
+/* ANSWER_DONE, or ANSWER_TAKEN: another process is the owner. ANSWER_AGAIN: that can't be read now. */
+enum answer outbox_owned(struct outbox *outbox);
 
 /* Whether the file is still the one at its place. If it isn't, as where another one was put there, that
  * is reported: what this process stores is lost. */
 int outbox_is_there(const struct outbox *outbox);
 
-/* How many texts wait, for being sealed or for a receipt, as the bound counts them: as many as it has and 100,000 of each
- * at most; and how many sessions are stopped. 0, or -1 after a fault. */
-int outbox_count_texts(struct outbox *outbox, uint64_t *count);
-int outbox_count_stopped(struct outbox *outbox, uint64_t *count);
+/* How many texts wait, for being sealed or for a receipt, as the bound counts them: as many as it has and 100,000 of
+ * each at most; and how many sessions are stopped. */
+enum answer outbox_count_texts(struct outbox *outbox, uint64_t *count);
+enum answer outbox_count_stopped(struct outbox *outbox, uint64_t *count);
 
-/* Whether a text of a session that isn't stopped is among the first 10,000 that aren't sealed, and when the oldest was put
- * in, in seconds since 1970, 0 if that isn't known. 0, or -1 after a fault. */
-int outbox_oldest_text(struct outbox *outbox, int *is_there, uint64_t *second);
+/* Whether a text of a session that isn't stopped is among the first 10,000 that aren't sealed, and when the oldest
+ * was put in, in seconds since 1970, 0 if that isn't known. */
+enum answer outbox_oldest_text(struct outbox *outbox, int *is_there, uint64_t *second);
 
-/* ---- Within a transaction. It begins with OUTBOX_OK; OUTBOX_AGAIN: another process's transaction took long, or who the
- * owner is can't be read now. OUTBOX_TAKEN: another process is the owner. */
-enum outbox_answer outbox_begin(struct outbox *outbox);
+/* ---- Within a transaction. It begins with ANSWER_DONE; ANSWER_AGAIN: another process's transaction took long, or who the
+ * owner is can't be read now. ANSWER_TAKEN: another process is the owner. */
+enum answer outbox_begin(struct outbox *outbox);
 
 /* Begins with the texts after one of them, so many at most; or with those under this name up to one of them. Each call
- * of outbox_next_text gives one, the oldest first: 1, 0 after the last, -1 after a fault. The caller ends the rows. */
+ * of outbox_next_text gives one, the oldest first. The caller ends the rows. */
 struct statement *outbox_select_texts(struct outbox *outbox, sqlite3_int64 after, size_t limit);
 struct statement *outbox_select_waiting(struct outbox *outbox, const char *name, sqlite3_int64 to, size_t limit);
-int outbox_next_text(struct statement *select, struct waiting_text *text);
+enum answer outbox_next_text(struct statement *select, struct waiting_text *text);
 
-int outbox_drop_texts(struct outbox *outbox, sqlite3_int64 first, sqlite3_int64 last);
+enum answer outbox_drop_texts(struct outbox *outbox, sqlite3_int64 first, sqlite3_int64 last);
 
 /* Adds a frame, with the history of the session up to it. What is added can be read once outbox_insert was called, or the
  * transaction was committed; the session's name stays until then. */
-int outbox_add_frame(struct outbox *outbox, const char *session, uint64_t number,
-                     const uint8_t *frame, size_t len, const struct history *history);
+enum answer outbox_add_frame(struct outbox *outbox, const char *session, uint64_t number,
+                             const uint8_t *frame, size_t len, const struct history *history);
 
 /* Stores that a text is sealed under this number, as this part of the record. */
-int outbox_add_sealed(struct outbox *outbox, const struct waiting_text *text, const char *session,
-                      uint64_t number, unsigned part);
+enum answer outbox_add_sealed(struct outbox *outbox, const struct waiting_text *text, const char *session,
+                              uint64_t number, unsigned part);
 
 /* Inserts what was added. */
-int outbox_insert(struct outbox *outbox);
+enum answer outbox_insert(struct outbox *outbox);
 
 /* Moves a session's next number, by compare-and-set: one that has no row stands at its first
  * number. */
-int outbox_set_next(struct outbox *outbox, const struct session *session, uint64_t from,
-                    uint64_t to);
+enum answer outbox_set_next(struct outbox *outbox, const struct session *session, uint64_t from,
+                            uint64_t to);
 
 /* Stores how far a session is carried and done; deletes the frames that are done, and once that is
  * committed `delays` has how long their texts took. `next` stays. */
-int outbox_set_carried(struct outbox *outbox, const char *session,
-                       const struct outbox_progress *it);
-int outbox_drop_done(struct outbox *outbox, const char *session, uint64_t done);
+enum answer outbox_set_carried(struct outbox *outbox, const char *session,
+                               const struct outbox_progress *it);
+enum answer outbox_drop_done(struct outbox *outbox, const char *session, uint64_t done);
 
 /* Stores the receipt that stopped a session, also where nothing of it was sealed. Since when it is stopped stays. */
-int outbox_set_stop(struct outbox *outbox, const struct session *session, const struct stop *stop);
+enum answer outbox_set_stop(struct outbox *outbox, const struct session *session, const struct stop *stop);
 
 /* Says that a session is stopped, why, and since when, 0 for now; that it isn't; that none is. */
-int outbox_add_stopped(struct outbox *outbox, const char *session, const char *reason, uint64_t since);
-int outbox_end_stopped(struct outbox *outbox, const char *session);
-int outbox_drop_stopped(struct outbox *outbox);
+enum answer outbox_add_stopped(struct outbox *outbox, const char *session, const char *reason, uint64_t since);
+enum answer outbox_end_stopped(struct outbox *outbox, const char *session);
+enum answer outbox_drop_stopped(struct outbox *outbox);
 
 /* ---- Sessions that begin by tickets (opening.h), whose keys are wrapped (key_wrapping.h). */
 
@@ -181,52 +186,53 @@ struct begun {
     int is_closed;
 };
 
-/* The session of this name; the last one of a stream: 1, 0 if there is none, -1 after a fault, as
- * where its key can't be read. The caller overwrites the key. */
-int outbox_find_begun(struct outbox *outbox, struct kerberos *kerberos, const char *name,
-                      struct begun *it);
-int outbox_find_stream(struct outbox *outbox, struct kerberos *kerberos, const char *stream,
-                       struct begun *it);
+/* Finds the session of this name, or the last one of a stream. A key that can't be read is a fault. The caller
+ * overwrites the key. */
+enum answer outbox_find_begun(struct outbox *outbox, struct kerberos *kerberos, const char *name,
+                              struct begun *it);
+enum answer outbox_find_stream(struct outbox *outbox, struct kerberos *kerberos, const char *stream,
+                               struct begun *it);
 
 /* Wraps its key as its row is to have it: 0, or -1 with a report, as where the keytab can't be read. */
 int outbox_wrap(struct kerberos *kerberos, const struct begun *it, struct wrapped *wrapped);
 
 /* In a transaction: adds it, or notes that it is closed. */
-int outbox_add_begun(struct outbox *outbox, const struct begun *it, const struct wrapped *wrapped);
-int outbox_close_begun(struct outbox *outbox, const struct begun *it);
+enum answer outbox_add_begun(struct outbox *outbox, const struct begun *it, const struct wrapped *wrapped);
+enum answer outbox_close_begun(struct outbox *outbox, const struct begun *it);
 
 /* The same: forgets sessions of its stream that ended before the one before it, and of which nothing waits for a
  * receipt, nor of the one after them, whose opening names them. Adds them to the list, as long as it has room. */
 enum { ENDED = 4096 }; /* more than begin in one transaction */
 struct ended { size_t count; struct { char name[CARRIER_NAME]; unsigned shard; } at[ENDED]; };
-int outbox_forget_ended(struct outbox *outbox, const struct begun *it, struct ended *ended);
+enum answer outbox_forget_ended(struct outbox *outbox, const struct begun *it, struct ended *ended);
 
 /* The second up to which sessions that were begun are old; in a transaction of its own: it is this
  * one. */
-int outbox_renewed(struct outbox *outbox, uint64_t *second);
-enum outbox_answer outbox_set_renewed(struct outbox *outbox, uint64_t second);
+enum answer outbox_renewed(struct outbox *outbox, uint64_t *second);
+enum answer outbox_set_renewed(struct outbox *outbox, uint64_t second);
 
 /* The same: wraps keys that aren't wrapped under the newest key. */
-int outbox_wrap_anew(struct outbox *outbox, struct kerberos *kerberos);
+enum answer outbox_wrap_anew(struct outbox *outbox, struct kerberos *kerberos);
 
 /* ---- */
 
-int outbox_commit(struct outbox *outbox);
+enum answer outbox_commit(struct outbox *outbox);
 void outbox_rollback(struct outbox *outbox);
 
 /* ---- The frames of a session from a number on, as outbox_select_texts gives texts. */
 void outbox_select_frames(struct outbox *outbox, const char *session, uint64_t from,
                           unsigned limit);
-int outbox_next_frame(struct outbox *outbox, uint64_t *number, const uint8_t **frame, size_t *len);
+enum answer outbox_next_frame(struct outbox *outbox, uint64_t *number, const uint8_t **frame, size_t *len);
 void outbox_end_frames(struct outbox *outbox);
 
 /* The history of all frames of a session below a number: it stands beside the last of them, or, where an older
  * version sealed that, follows from that of those below `from` and the frames since. It isn't known if one of
- * them isn't there. 0, or -1 after a fault: then it may be known, and can't be read now. */
-int outbox_history(struct outbox *outbox, const struct session *session, uint64_t from, const struct history *history,
-                   uint64_t to, struct history *found);
+ * them isn't there. After a fault it may be known, and can't be read now. */
+enum answer outbox_history(struct outbox *outbox, const struct session *session, uint64_t from,
+                           const struct history *history,
+                           uint64_t to, struct history *found);
 
 /* In a transaction: why a session stands now, KRBRELAY_STANDS_*. */
-int outbox_set_stands(struct outbox *outbox, const char *session, uint32_t stands);
+enum answer outbox_set_stands(struct outbox *outbox, const char *session, uint32_t stands);
 
 #endif

@@ -47,62 +47,63 @@ static int read_columns(sqlite3_stmt *row, struct begun *it, struct wrapped *wra
     return 1;
 }
 
-/* The first row that a statement gives: 1, 0 if there is none, -1 after a fault. */
-static int find(struct outbox *o, enum outbox_statement which, struct kerberos *kerberos,
-                struct begun *it)
+/* The first row that a statement gives. */
+static enum answer find(struct outbox *o, enum outbox_statement which, struct kerberos *kerberos,
+                        struct begun *it)
 {
     struct statement *select = &o->statements[which];
     struct wrapped wrapped;
     char about[KEY_WRAPPING_ABOUT];
-    int row = step_row(select);
+    enum answer row = step_row(select);
     memset(it, 0, sizeof *it);
-    if (row == 1 && !read_columns(select->at, it, &wrapped))
-        row = -1;
+    if (row == ANSWER_FOUND && !read_columns(select->at, it, &wrapped))
+        row = ANSWER_FAULT;
     end_rows(select);
-    if (row != 1)
+    if (row != ANSWER_FOUND)
         return row;
     write_about(&it->opened, about);
     return key_unwrap(kerberos, KEY_WRAPPING_SENDER, about, &wrapped, it->opened.key,
-                        &it->opened.key_len) == 0 ? 1 : -1;
+                        &it->opened.key_len) == 0 ? ANSWER_FOUND : ANSWER_FAULT;
 }
 
-int outbox_find_begun(struct outbox *o, struct kerberos *kerberos, const char *name,
-                      struct begun *it)
+enum answer outbox_find_begun(struct outbox *o, struct kerberos *kerberos, const char *name,
+                              struct begun *it)
 {
     bind_text(&o->statements[SELECT_OPENED], 1, name);
     return find(o, SELECT_OPENED, kerberos, it);
 }
 
-int outbox_find_stream(struct outbox *o, struct kerberos *kerberos, const char *stream,
-                       struct begun *it)
+enum answer outbox_find_stream(struct outbox *o, struct kerberos *kerberos, const char *stream,
+                               struct begun *it)
 {
     bind_text(&o->statements[SELECT_STREAM], 1, stream);
     return find(o, SELECT_STREAM, kerberos, it);
 }
 
 /* Deletes what the outbox has of a session. */
-static int forget(struct outbox *o, const char *name)
+static enum answer forget(struct outbox *o, const char *name)
 {
     bind_text(&o->statements[DROP_OPENED], 1, name);
     bind_text(&o->statements[FORGET_SESSION], 1, name);
-    return step_once(&o->statements[DROP_OPENED]) == 0 && step_once(&o->statements[FORGET_SESSION]) == 0 ? 0 : -1;
+    return step_once(&o->statements[DROP_OPENED]) == ANSWER_DONE
+           && step_once(&o->statements[FORGET_SESSION]) == ANSWER_DONE ? ANSWER_DONE : ANSWER_FAULT;
 }
 
-int outbox_forget_ended(struct outbox *o, const struct begun *it, struct ended *ended)
+enum answer outbox_forget_ended(struct outbox *o, const struct begun *it, struct ended *ended)
 {
     struct statement *select = &o->statements[SELECT_ENDED];
     size_t i = ended->count;
-    int row = 0, answer = 0;
+    enum answer answer = ANSWER_DONE, row = ANSWER_DONE;
     bind_text(select, 1, it->opened.stream);
     bind_number(select, 2, (sqlite3_int64)it->turn);
     bind_number(select, 3, (sqlite3_int64)(ENDED - ended->count));
-    while (ended->count < ENDED && (row = step_row(select)) == 1
+    while (ended->count < ENDED && (row = step_row(select)) == ANSWER_FOUND
            && copy_column(select->at, 0, ended->at[ended->count].name))
         ended->at[ended->count++].shard = (unsigned)sqlite3_column_int(select->at, 1) % CARRIER_SHARDS;
     end_rows(select);
-    for (; i < ended->count && answer == 0; i++)
+    for (; i < ended->count && answer == ANSWER_DONE; i++)
         answer = forget(o, ended->at[i].name);
-    return row >= 0 ? answer : -1;
+    return row != ANSWER_FAULT ? answer : ANSWER_FAULT;
 }
 
 int outbox_wrap(struct kerberos *kerberos, const struct begun *it, struct wrapped *wrapped)
@@ -113,7 +114,7 @@ int outbox_wrap(struct kerberos *kerberos, const struct begun *it, struct wrappe
     return key_wrap(kerberos, KEY_WRAPPING_SENDER, about, opened->key, opened->key_len, wrapped);
 }
 
-int outbox_add_begun(struct outbox *o, const struct begun *it, const struct wrapped *wrapped)
+enum answer outbox_add_begun(struct outbox *o, const struct begun *it, const struct wrapped *wrapped)
 {
     struct statement *add = &o->statements[ADD_OPENED];
     const struct opened *opened = &it->opened;
@@ -131,7 +132,7 @@ int outbox_add_begun(struct outbox *o, const struct begun *it, const struct wrap
     return step_once(add);
 }
 
-int outbox_close_begun(struct outbox *o, const struct begun *it)
+enum answer outbox_close_begun(struct outbox *o, const struct begun *it)
 {
     struct statement *set = &o->statements[CLOSE_OPENED];
     bind_text(set, 1, it->opened.name);
@@ -140,35 +141,35 @@ int outbox_close_begun(struct outbox *o, const struct begun *it)
 
 /* ---- Keys that are wrapped anew */
 
-/* Wraps the next one after this name, which becomes its name: 1, 0 if there is none, -1 after a
- * fault. */
-static int wrap_next(struct outbox *o, struct kerberos *kerberos, uint32_t kvno,
-                     char after[CARRIER_NAME])
+/* Wraps the next one after this name, which becomes its name. */
+static enum answer wrap_next(struct outbox *o, struct kerberos *kerberos, uint32_t kvno,
+                             char after[CARRIER_NAME])
 {
     struct begun it;
     struct wrapped wrapped;
-    int found;
+    enum answer found;
     bind_number(&o->statements[SELECT_WRAPPED], 1, kvno);
     bind_text(&o->statements[SELECT_WRAPPED], 2, after);
     found = find(o, SELECT_WRAPPED, kerberos, &it);
     memcpy(after, it.opened.name, CARRIER_NAME);
-    if (found == 1 && (outbox_wrap(kerberos, &it, &wrapped) != 0 || outbox_add_begun(o, &it, &wrapped) != 0))
-        found = -1;
+    if (found == ANSWER_FOUND && (outbox_wrap(kerberos, &it, &wrapped) != 0
+        || outbox_add_begun(o, &it, &wrapped) != ANSWER_DONE))
+        found = ANSWER_FAULT;
     explicit_bzero(&it, sizeof it);
     return found;
 }
 
-int outbox_wrap_anew(struct outbox *o, struct kerberos *kerberos)
+enum answer outbox_wrap_anew(struct outbox *o, struct kerberos *kerberos)
 {
     char after[CARRIER_NAME] = "";
     uint32_t kvno;
-    int found = 1;
-    if (key_newest(kerberos, &kvno) != 0 || outbox_begin(o) != OUTBOX_OK)
-        return -1;
-    while (found == 1 || (found < 0 && after[0] != 0)) /* one that can't be read is passed by */
+    enum answer found = ANSWER_FOUND;
+    if (key_newest(kerberos, &kvno) != 0 || outbox_begin(o) != ANSWER_DONE)
+        return ANSWER_FAULT;
+    while (found == ANSWER_FOUND || (found == ANSWER_FAULT && after[0] != 0)) /* one that can't be read is passed by */
         found = wrap_next(o, kerberos, kvno, after);
-    if (found == 0 && outbox_commit(o) == 0)
-        return 0;
+    if (found == ANSWER_DONE && outbox_commit(o) == ANSWER_DONE)
+        return ANSWER_DONE;
     outbox_rollback(o);
-    return -1;
+    return ANSWER_FAULT;
 }

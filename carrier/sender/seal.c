@@ -28,16 +28,16 @@ static int draw(uint8_t confounder[16])
     return 0;
 }
 
-static enum seal_answer stop(struct sealing *s, struct sending *it, sqlite3_int64 at, const char *reason)
+static enum answer stop(struct sealing *s, struct sending *it, sqlite3_int64 at, const char *reason)
 {
     it->stopped_at = at;
     copy_cut(it->reason, sizeof it->reason, reason);
     s->stopped = it;
-    return SEAL_STOP;
+    return ANSWER_STOPPED;
 }
 
 /* What fails for another reason than that memory is out fails again: of the record with this index. */
-static enum seal_answer judge(struct sealing *s, struct sending *it, size_t index, enum krbrelay_answer answer)
+static enum answer judge(struct sealing *s, struct sending *it, size_t index, enum krbrelay_answer answer)
 {
     char text[KRBRELAY_TEXT_SIZE];
     const struct record *record = it->first;
@@ -45,7 +45,7 @@ static enum seal_answer judge(struct sealing *s, struct sending *it, size_t inde
     answer_text(answer, text);
     while (index-- > 0)
         record = record->next;
-    return answer == KRBRELAY_MEMORY ? SEAL_FAULT : stop(s, it, record->begin, text);
+    return answer == KRBRELAY_MEMORY ? ANSWER_FAULT : stop(s, it, record->begin, text);
 }
 
 /* ---- Records that wait */
@@ -57,16 +57,16 @@ static int has_number(const struct sending *it, uint8_t kind)
 }
 
 /* Adds a record, which gets the session's next number. */
-static enum seal_answer add_record(struct sealing *s, struct sending *it, uint8_t kind, const uint8_t *bytes,
-                                   size_t len)
+static enum answer add_record(struct sealing *s, struct sending *it, uint8_t kind, const uint8_t *bytes,
+                              size_t len)
 {
-    enum seal_answer answer = SEAL_OK;
+    enum answer answer = ANSWER_DONE;
     struct record *record;
     if (!has_number(it, kind))
         return stop(s, it, it->begin, "it has no number left: it needs a new key");
     if (s->count == RECORDS || s->size + len + 1 > BYTES)
         answer = seal_all(s);
-    if (answer != SEAL_OK)
+    if (answer != ANSWER_DONE)
         return answer;
     record = &s->records[s->count++];
     *record = (struct record){ it, it->begin, s->size, len + 1, NULL };
@@ -78,7 +78,7 @@ static enum seal_answer add_record(struct sealing *s, struct sending *it, uint8_
     it->last = record;
     it->waiting++;
     it->sealed++;
-    return SEAL_OK;
+    return ANSWER_DONE;
 }
 
 void seal_forget(struct sealing *s)
@@ -119,31 +119,32 @@ static size_t gather(const struct sealing *s, const struct sending *it, struct k
 }
 
 /* Stores the frames of a session's first records. */
-static enum seal_answer store_frames(struct sealing *s, struct sending *it, const size_t *sizes, size_t count)
+static enum answer store_frames(struct sealing *s, struct sending *it, const size_t *sizes, size_t count)
 {
     const uint8_t *frame = s->made;
     size_t i;
     for (i = 0; i < count; i++) {
         if (history_add(&it->history, frame, sizes[i]) != 0
-            || outbox_add_frame(s->outbox, it->of.name, it->sealed - it->waiting, frame, sizes[i], &it->history) != 0)
-            return SEAL_FAULT;
+            || outbox_add_frame(s->outbox, it->of.name, it->sealed - it->waiting, frame, sizes[i],
+                                &it->history) != ANSWER_DONE)
+            return ANSWER_FAULT;
         frame += sizes[i];
         it->first = it->first->next;
         it->waiting--;
     }
     s->frames += count;
-    return SEAL_OK;
+    return ANSWER_DONE;
 }
 
 /* Seals the next records of a session. */
-static enum seal_answer seal_some(struct sealing *s, struct sending *it)
+static enum answer seal_some(struct sealing *s, struct sending *it)
 {
     struct krbrelay_unsealed some[KRBRELAY_MOST_MESSAGES];
     size_t sizes[KRBRELAY_MOST_MESSAGES], failed = 0, count = gather(s, it, some);
     const uint64_t began = nanoseconds();
     enum krbrelay_answer answer;
     if (count == 0)
-        return SEAL_FAULT;
+        return ANSWER_FAULT;
     answer = make_sealer(it);
     if (answer == KRBRELAY_OK)
         answer = krbrelay_sealer_seal_many(&it->sealer, some, count, s->made, KRBRELAY_FRAME_LIMIT, sizes, &failed);
@@ -152,43 +153,43 @@ static enum seal_answer seal_some(struct sealing *s, struct sending *it)
     return answer == KRBRELAY_OK ? store_frames(s, it, sizes, count) : judge(s, it, failed, answer);
 }
 
-enum seal_answer seal_all(struct sealing *s)
+enum answer seal_all(struct sealing *s)
 {
-    enum seal_answer answer = SEAL_OK;
+    enum answer answer = ANSWER_DONE;
     size_t i = 0;
-    while (i < s->count && answer == SEAL_OK)
+    while (i < s->count && answer == ANSWER_DONE)
         if (s->records[i].of->first != NULL)
             answer = seal_some(s, s->records[i].of);
         else
             i++;
     seal_forget(s);
-    return answer == SEAL_OK && outbox_insert(s->outbox) != 0 ? SEAL_FAULT : answer;
+    return answer == ANSWER_DONE && outbox_insert(s->outbox) != ANSWER_DONE ? ANSWER_FAULT : answer;
 }
 
 /* ---- Texts */
 
 /* Room for another text of so many bytes. */
-static int grow(struct sending *it, size_t len)
+static enum answer grow(struct sending *it, size_t len)
 {
     size_t wanted = it->size + len + 4;
     uint8_t *more;
     if (wanted <= it->batch_room)
-        return 0;
+        return ANSWER_DONE;
     more = realloc(it->batch, 2 * wanted);
     if (more == NULL)
-        return -1;
+        return ANSWER_FAULT;
     it->batch = more;
     it->batch_room = 2 * wanted;
-    return 0;
+    return ANSWER_DONE;
 }
 
-enum seal_answer seal_rest(struct sealing *s, struct sending *it)
+enum answer seal_rest(struct sealing *s, struct sending *it)
 {
     size_t at = 0, len = 0;
     const uint8_t *text = NULL;
-    enum seal_answer answer = SEAL_FAULT;
+    enum answer answer = ANSWER_FAULT;
     if (it->texts == 0)
-        return SEAL_OK;
+        return ANSWER_DONE;
     if (it->texts > 1)
         answer = add_record(s, it, BATCH, it->batch, it->size);
     else if (krbrelay_batch_next(it->batch, it->size, &at, &text, &len) == KRBRELAY_OK)
@@ -199,34 +200,34 @@ enum seal_answer seal_rest(struct sealing *s, struct sending *it)
 }
 
 /* The number that this text gets, as this part of its record. */
-static enum seal_answer note_sealed(struct sealing *s, const struct sending *it,
-                                    const struct waiting_text *text, unsigned part)
+static enum answer note_sealed(struct sealing *s, const struct sending *it,
+                               const struct waiting_text *text, unsigned part)
 {
-    return outbox_add_sealed(s->outbox, text, it->of.name, it->sealed, part) == 0 ? SEAL_OK
-                                                                                  : SEAL_FAULT;
+    return outbox_add_sealed(s->outbox, text, it->of.name, it->sealed, part) == ANSWER_DONE ? ANSWER_DONE
+                                                                                  : ANSWER_FAULT;
 }
 
-enum seal_answer seal_close(struct sealing *s, struct sending *it, sqlite3_int64 id)
+enum answer seal_close(struct sealing *s, struct sending *it, sqlite3_int64 id)
 {
-    enum seal_answer answer = seal_rest(s, it);
+    enum answer answer = seal_rest(s, it);
     it->begin = id;
-    return answer == SEAL_OK ? add_record(s, it, CLOSE, NULL, 0) : answer;
+    return answer == ANSWER_DONE ? add_record(s, it, CLOSE, NULL, 0) : answer;
 }
 
 /* The close that an application put in. */
-static enum seal_answer take_close(struct sealing *s, struct sending *it,
-                                   const struct waiting_text *text)
+static enum answer take_close(struct sealing *s, struct sending *it,
+                              const struct waiting_text *text)
 {
-    enum seal_answer answer = seal_rest(s, it);
-    if (answer == SEAL_OK)
+    enum answer answer = seal_rest(s, it);
+    if (answer == ANSWER_DONE)
         answer = note_sealed(s, it, text, 0);
-    return answer == SEAL_OK ? seal_close(s, it, text->id) : answer;
+    return answer == ANSWER_DONE ? seal_close(s, it, text->id) : answer;
 }
 
-enum seal_answer seal_text(struct sealing *s, struct sending *it, const struct waiting_text *text)
+enum answer seal_text(struct sealing *s, struct sending *it, const struct waiting_text *text)
 {
     char reason[64];
-    enum seal_answer answer = SEAL_OK;
+    enum answer answer = ANSWER_DONE;
     if (text->body == NULL)
         return take_close(s, it, text);
     if (text->len > TEXT_BYTES) {
@@ -237,19 +238,19 @@ enum seal_answer seal_text(struct sealing *s, struct sending *it, const struct w
     if (s->batch == 1) {
         it->begin = text->id;
         answer = note_sealed(s, it, text, 0);
-        return answer == SEAL_OK ? add_record(s, it, TEXT, text->body, text->len) : answer;
+        return answer == ANSWER_DONE ? add_record(s, it, TEXT, text->body, text->len) : answer;
     }
     if (it->texts > 0 && it->size + text->len > BATCH_BYTES)
         answer = seal_rest(s, it);
-    if (answer != SEAL_OK)
+    if (answer != ANSWER_DONE)
         return answer;
-    if (grow(it, text->len) != 0 ||
+    if (grow(it, text->len) != ANSWER_DONE ||
         krbrelay_batch_add(it->batch, it->batch_room, &it->size, text->body, text->len) != KRBRELAY_OK)
-        return SEAL_FAULT;
+        return ANSWER_FAULT;
     if (it->texts == 0)
         it->begin = text->id;
     answer = note_sealed(s, it, text, it->texts++);
-    return answer == SEAL_OK && it->texts >= s->batch ? seal_rest(s, it) : answer;
+    return answer == ANSWER_DONE && it->texts >= s->batch ? seal_rest(s, it) : answer;
 }
 
 /* A sealer doesn't go back: another one is made at the number that is stored. */
@@ -265,13 +266,13 @@ void seal_reset(struct sending *it, const struct history *history)
     it->size = 0;
 }
 
-int seal_begin(struct sealing *s, struct outbox *outbox, unsigned batch)
+enum answer seal_begin(struct sealing *s, struct outbox *outbox, unsigned batch)
 {
     *s = (struct sealing){ .outbox = outbox, .batch = batch };
     s->records = calloc(RECORDS, sizeof *s->records);
     s->bytes = malloc(BYTES);
     s->made = malloc(KRBRELAY_FRAME_LIMIT);
-    return s->records != NULL && s->bytes != NULL && s->made != NULL ? 0 : -1;
+    return s->records != NULL && s->bytes != NULL && s->made != NULL ? ANSWER_DONE : ANSWER_FAULT;
 }
 
 void seal_end(struct sealing *s)

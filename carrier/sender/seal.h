@@ -1,8 +1,8 @@
 /* Seals texts into records, whose frames the outbox stores. All of this is done within a transaction of the
- * outbox: what doesn't answer SEAL_OK wants it to be given up, and its sessions to be reset. Records get their
+ * outbox: what doesn't answer ANSWER_DONE wants it to be given up, and its sessions to be reset. Records get their
  * numbers in turn, and those of a transaction are sealed together, since that is quicker.
  *
- * SEAL_FAULT may pass. SEAL_STOP won't: of the session `stopped` the texts from `stopped_at` on can't be sealed,
+ * ANSWER_FAULT may pass. ANSWER_STOPPED won't: of the session `stopped` the texts from `stopped_at` on can't be sealed,
  * `reason` says why, and those before them still can. */
 #ifndef SEAL_H
 #define SEAL_H
@@ -10,7 +10,6 @@
 #include "outbox.h"
 
 enum { BATCH_BYTES = 60000 };      /* of a batch at most, so that its message passes by any carrier */
-enum seal_answer { SEAL_OK = 0, SEAL_STOP = 1, SEAL_FAULT = -1 };
 
 /* One session of a sender, from its first text or frame on. */
 struct sending {
@@ -66,21 +65,21 @@ struct sealing {
     uint64_t nanoseconds;   /* in so much time */
 };
 
-/* 0, or -1 if there is no memory; the end overwrites what is left of texts. */
-int seal_begin(struct sealing *s, struct outbox *outbox, unsigned batch);
+/* A fault: there is no memory. The end overwrites what is left of texts. */
+enum answer seal_begin(struct sealing *s, struct outbox *outbox, unsigned batch);
 void seal_end(struct sealing *s);
 
 /* Takes one text, or the close if its body is NULL. */
-enum seal_answer seal_text(struct sealing *s, struct sending *it, const struct waiting_text *text);
+enum answer seal_text(struct sealing *s, struct sending *it, const struct waiting_text *text);
 
 /* Ends the record of the texts that wait, and adds the close. */
-enum seal_answer seal_close(struct sealing *s, struct sending *it, sqlite3_int64 id);
+enum answer seal_close(struct sealing *s, struct sending *it, sqlite3_int64 id);
 
 /* Ends the record of the texts that wait. */
-enum seal_answer seal_rest(struct sealing *s, struct sending *it);
+enum answer seal_rest(struct sealing *s, struct sending *it);
 
 /* Seals all records, and stores their frames. Before the transaction is committed. */
-enum seal_answer seal_all(struct sealing *s);
+enum answer seal_all(struct sealing *s);
 
 /* Forgets them: the transaction is given up. */
 void seal_forget(struct sealing *s);

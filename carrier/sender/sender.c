@@ -22,73 +22,73 @@ enum {
 
 /* ---- Sessions */
 
-int sender_tell_stopped(struct sender *s, const char *session, const char *reason, uint64_t since)
+enum answer sender_tell_stopped(struct sender *s, const char *session, const char *reason, uint64_t since)
 {
     log_fact(LEVEL_ERROR, "session_stopped", field_text("session", session),
              field_text("text", reason));
     return outbox_add_stopped(&s->outbox, session, reason, since);
 }
 
-enum outbox_answer sender_stop(struct sender *s, const char *session, const char *reason)
+enum answer sender_stop(struct sender *s, const char *session, const char *reason)
 {
-    enum outbox_answer begun = outbox_begin(&s->outbox);
-    if (begun != OUTBOX_OK)
+    enum answer begun = outbox_begin(&s->outbox);
+    if (begun != ANSWER_DONE)
         return begun;
-    if (sender_tell_stopped(s, session, reason, 0) == 0 && outbox_commit(&s->outbox) == 0)
-        return OUTBOX_OK;
+    if (sender_tell_stopped(s, session, reason, 0) == ANSWER_DONE && outbox_commit(&s->outbox) == ANSWER_DONE)
+        return ANSWER_DONE;
     outbox_rollback(&s->outbox);
-    return OUTBOX_AGAIN;
+    return ANSWER_AGAIN;
 }
 
-enum outbox_answer sender_end_stop(struct sender *s, const char *session)
+enum answer sender_end_stop(struct sender *s, const char *session)
 {
-    enum outbox_answer begun = outbox_begin(&s->outbox);
-    if (begun != OUTBOX_OK)
+    enum answer begun = outbox_begin(&s->outbox);
+    if (begun != ANSWER_DONE)
         return begun;
-    if (outbox_end_stopped(&s->outbox, session) == 0 && outbox_commit(&s->outbox) == 0)
-        return OUTBOX_OK;
+    if (outbox_end_stopped(&s->outbox, session) == ANSWER_DONE && outbox_commit(&s->outbox) == ANSWER_DONE)
+        return ANSWER_DONE;
     outbox_rollback(&s->outbox);
-    return OUTBOX_AGAIN;
+    return ANSWER_AGAIN;
 }
 
 /* ---- What is stored, in one transaction */
 
 /* Stores a session that begins by a ticket, and that it is closed. */
-static int keep_begun(struct sender *s, const struct sending *it)
+static enum answer keep_begun(struct sender *s, const struct sending *it)
 {
-    if (!it->is_stored && (outbox_add_begun(&s->outbox, it->begun, it->wrapped) != 0
-                           || outbox_forget_ended(&s->outbox, it->begun, &s->ended) != 0))
-        return -1;
-    return it->is_closing ? outbox_close_begun(&s->outbox, it->begun) : 0;
+    if (!it->is_stored && (outbox_add_begun(&s->outbox, it->begun, it->wrapped) != ANSWER_DONE
+                           || outbox_forget_ended(&s->outbox, it->begun, &s->ended) != ANSWER_DONE))
+        return ANSWER_FAULT;
+    return it->is_closing ? outbox_close_begun(&s->outbox, it->begun) : ANSWER_DONE;
 }
 
 /* Stores what was sealed of a session. */
-static enum seal_answer keep_session(struct sender *s, const struct sending *it)
+static enum answer keep_session(struct sender *s, const struct sending *it)
 {
-    if (it->begun != NULL && keep_begun(s, it) != 0)
-        return SEAL_FAULT;
+    if (it->begun != NULL && keep_begun(s, it) != ANSWER_DONE)
+        return ANSWER_FAULT;
     if (it->sealed > it->end.progress.next
-        && outbox_set_next(&s->outbox, &it->of, it->end.progress.next, it->sealed) != 0)
-        return SEAL_FAULT;
-    return SEAL_OK;
+        && outbox_set_next(&s->outbox, &it->of, it->end.progress.next, it->sealed) != ANSWER_DONE)
+        return ANSWER_FAULT;
+    return ANSWER_DONE;
 }
 
 /* Seals what waits, and stores it. */
-static enum seal_answer keep_sealed(struct sender *s)
+static enum answer keep_sealed(struct sender *s)
 {
-    enum seal_answer answer = SEAL_OK;
+    enum answer answer = ANSWER_DONE;
     size_t i;
-    for (i = 0; i < s->touched.count && answer == SEAL_OK; i++)
+    for (i = 0; i < s->touched.count && answer == ANSWER_DONE; i++)
         answer = seal_rest(&s->sealing, s->touched.at[i]);
-    if (answer == SEAL_OK)
+    if (answer == ANSWER_DONE)
         answer = seal_all(&s->sealing);
-    for (i = 0; i < s->touched.count && answer == SEAL_OK; i++)
+    for (i = 0; i < s->touched.count && answer == ANSWER_DONE; i++)
         answer = keep_session(s, s->touched.at[i]);
     return answer;
 }
 
-/* What is stored of a session that has gone on: 0, or -1 after a fault. */
-static int reached(struct sender *s, const struct sending *it, struct outbox_progress *now)
+/* What is stored of a session that has gone on. */
+static enum answer reached(struct sender *s, const struct sending *it, struct outbox_progress *now)
 {
     const struct krbrelay_sending *end = &it->end;
     *now = (struct outbox_progress){ .next = it->kept.next, .carried = end->progress.carried, .done = end->done,
@@ -98,18 +98,18 @@ static int reached(struct sender *s, const struct sending *it, struct outbox_pro
 }
 
 /* Stores how far sessions are. */
-static enum seal_answer keep_dirty(struct sender *s)
+static enum answer keep_dirty(struct sender *s)
 {
     size_t i;
     for (i = 0; i < s->dirty.count; i++) {
         struct sending *it = s->dirty.at[i];
         struct outbox_progress now;
-        if (reached(s, it, &now) != 0 || outbox_set_carried(&s->outbox, it->of.name, &now) != 0
-            || (now.done > it->kept.done && outbox_drop_done(&s->outbox, it->of.name, now.done) != 0))
-            return SEAL_FAULT;
+        if (reached(s, it, &now) != ANSWER_DONE || outbox_set_carried(&s->outbox, it->of.name, &now) != ANSWER_DONE
+            || (now.done > it->kept.done && outbox_drop_done(&s->outbox, it->of.name, now.done) != ANSWER_DONE))
+            return ANSWER_FAULT;
         it->next_kept = now;
     }
-    return SEAL_OK;
+    return ANSWER_DONE;
 }
 
 /* All of it is stored. Of sessions that have ended the carrier has no receipt to keep any more. */
@@ -160,29 +160,29 @@ static void give_up(struct sender *s, sqlite3_int64 seen)
 }
 
 /* A session whose text can't be sealed is stopped, and the rest is tried again without it. */
-static enum outbox_answer store(struct sender *s, int with_texts)
+static enum answer store(struct sender *s, int with_texts)
 {
-    enum outbox_answer begun = outbox_begin(&s->outbox);
-    enum seal_answer answer = SEAL_OK;
+    enum answer begun = outbox_begin(&s->outbox);
+    enum answer answer = ANSWER_DONE;
     sqlite3_int64 seen = s->seen;
-    if (begun != OUTBOX_OK)
+    if (begun != ANSWER_DONE)
         return begun;
     if (with_texts)
         answer = intake_take(s);
-    if (answer == SEAL_OK)
+    if (answer == ANSWER_DONE)
         answer = keep_sealed(s);
-    if (answer == SEAL_OK)
+    if (answer == ANSWER_DONE)
         answer = keep_dirty(s);
-    if (answer == SEAL_OK && outbox_commit(&s->outbox) == 0) {
+    if (answer == ANSWER_DONE && outbox_commit(&s->outbox) == ANSWER_DONE) {
         s->kept_moment = milliseconds();
         note_kept(s);
-        return OUTBOX_OK;
+        return ANSWER_DONE;
     }
-    s->is_unknown = answer == SEAL_OK; /* the commit may have happened */
+    s->is_unknown = answer == ANSWER_DONE; /* the commit may have happened */
     give_up(s, seen);
-    if (answer == SEAL_STOP)
+    if (answer == ANSWER_STOPPED)
         return sender_stop(s, s->sealing.stopped->of.name, s->sealing.stopped->reason);
-    return OUTBOX_AGAIN;
+    return ANSWER_AGAIN;
 }
 
 /* ---- One round */
@@ -221,58 +221,58 @@ static void report_silence(struct sender *s, size_t rose)
 }
 
 /* Begins anew if the file of sessions has changed: those that no receipt stopped are tried again. */
-static enum outbox_answer look_at_sessions(struct sender *s)
+static enum answer look_at_sessions(struct sender *s)
 {
-    enum outbox_answer begun;
+    enum answer begun;
     if (s->newer == NULL)
         s->newer = sessions_read_again(s->sessions);
     if (s->newer == NULL || s->untold.count > 0)
-        return OUTBOX_OK; /* what stopped a session is stored first */
+        return ANSWER_DONE; /* what stopped a session is stored first */
     begun = outbox_begin(&s->outbox);
-    if (begun != OUTBOX_OK)
+    if (begun != ANSWER_DONE)
         return begun;
-    if (outbox_drop_stopped(&s->outbox) != 0 || outbox_commit(&s->outbox) != 0) {
+    if (outbox_drop_stopped(&s->outbox) != ANSWER_DONE || outbox_commit(&s->outbox) != ANSWER_DONE) {
         outbox_rollback(&s->outbox);
-        return OUTBOX_AGAIN;
+        return ANSWER_AGAIN;
     }
     sender_forget(s);
     sessions_forget(s->sessions);
     s->sessions = s->newer;
     s->newer = NULL;
-    return OUTBOX_OK;
+    return ANSWER_DONE;
 }
 
 /* After a SIGHUP the sessions that were begun so far are old. */
-static enum outbox_answer look_at_hangups(struct sender *s)
+static enum answer look_at_hangups(struct sender *s)
 {
     uint64_t now = read_clock().seconds;
-    enum outbox_answer answer;
+    enum answer answer;
     if (has_hung_up())
         s->is_hung_up = 1;
     if (!s->is_hung_up)
-        return OUTBOX_OK;
+        return ANSWER_DONE;
     answer = outbox_set_renewed(&s->outbox, now);
-    if (answer != OUTBOX_OK)
+    if (answer != ANSWER_DONE)
         return answer;
     s->renew = now;
     s->is_hung_up = 0;
     log_fact(LEVEL_INFO, "streams_renewed", field_number("up_to", now),
              field_text("text", "each stream's next text begins a session with a new key"));
-    return OUTBOX_OK;
+    return ANSWER_DONE;
 }
 
-/* Stores of the sessions of which that has changed why they stand, as krb_engine says: 0, or -1 after a fault. */
-static int keep_changed_stands(struct sender *s)
+/* Stores of the sessions of which that has changed why they stand, as krb_engine says. */
+static enum answer keep_changed_stands(struct sender *s)
 {
     size_t i;
     for (i = 0; i < s->all.count; i++) {
         struct sending *it = s->all.at[i];
         if (it->stands == it->stands_now || !it->is_stored)
             continue;
-        if (outbox_set_stands(&s->outbox, it->of.name, it->stands_now) != 0)
-            return -1;
+        if (outbox_set_stands(&s->outbox, it->of.name, it->stands_now) != ANSWER_DONE)
+            return ANSWER_FAULT;
     }
-    return 0;
+    return ANSWER_DONE;
 }
 
 static void note_stands(struct sender *s)
@@ -293,28 +293,28 @@ static int has_ended(const struct sending *it)
 }
 
 /* Begins anew once so many sessions have ended that they take as much memory as all others. */
-static enum outbox_answer forget_ended(struct sender *s)
+static enum answer forget_ended(struct sender *s)
 {
-    enum outbox_answer answer;
+    enum answer answer;
     size_t i, ended = 0;
     for (i = 0; i < s->all.count; i++)
         ended += has_ended(s->all.at[i]) != 0;
     if (ended < FORGOTTEN || 2 * ended < s->all.count || s->untold.count > 0 || !s->has_begun || s->is_unknown)
-        return OUTBOX_OK;
+        return ANSWER_DONE;
     answer = store(s, 0);
-    if (answer != OUTBOX_OK)
+    if (answer != ANSWER_DONE)
         return answer;
     log_fact(LEVEL_INFO, "sessions_forgotten", field_number("ended", ended),
              field_number("others", s->all.count - ended));
     sender_forget(s);
-    return OUTBOX_OK;
+    return ANSWER_DONE;
 }
 
-static enum outbox_answer keep_stands(struct sender *s)
+static enum answer keep_stands(struct sender *s)
 {
     uint64_t under_way, room, changed = 0;
     uint32_t settled;
-    enum outbox_answer begun;
+    enum answer begun;
     size_t i;
     s->standing = 0;
     for (i = 0; i < s->all.count; i++) {
@@ -327,44 +327,44 @@ static enum outbox_answer keep_stands(struct sender *s)
         s->standing += it->stands_now != KRBRELAY_STANDS_NOT;
         changed += it->stands != it->stands_now && it->is_stored;
     }
-    begun = changed > 0 ? outbox_begin(&s->outbox) : OUTBOX_OK;
-    if (changed == 0 || begun != OUTBOX_OK)
+    begun = changed > 0 ? outbox_begin(&s->outbox) : ANSWER_DONE;
+    if (changed == 0 || begun != ANSWER_DONE)
         return begun;
-    if (keep_changed_stands(s) == 0 && outbox_commit(&s->outbox) == 0) {
+    if (keep_changed_stands(s) == ANSWER_DONE && outbox_commit(&s->outbox) == ANSWER_DONE) {
         note_stands(s);
-        return OUTBOX_OK;
+        return ANSWER_DONE;
     }
     outbox_rollback(&s->outbox);
-    return OUTBOX_AGAIN;
+    return ANSWER_AGAIN;
 }
 
 /* Each second: shows how it stands, looks whether the outbox is still this process's, also where
  * nothing is stored, and whether the file of sessions has changed. */
-static enum outbox_answer look(struct sender *s)
+static enum answer look(struct sender *s)
 {
-    enum outbox_answer answer;
+    enum answer answer;
     if (nanoseconds() - s->looked < SECOND)
-        return OUTBOX_OK;
+        return ANSWER_DONE;
     if (s->has_begun)
         (void)note_silence(s, 0); /* how much waits is reported with what is carried */
     s->looked = nanoseconds();
     sender_show(s);
     service_tell_alive();
     answer = outbox_owned(&s->outbox);
-    if (answer != OUTBOX_OK)
-        return answer == OUTBOX_AGAIN ? OUTBOX_OK : answer;
+    if (answer != ANSWER_DONE)
+        return answer == ANSWER_AGAIN ? ANSWER_DONE : answer;
     if (!outbox_is_there(&s->outbox) || s->carrier->is_closed(s->carrier))
-        return OUTBOX_FAULT; /* which is reported: a unit starts this program again */
+        return ANSWER_FAULT; /* which is reported: a unit starts this program again */
     answer = keep_stands(s);
-    if (answer == OUTBOX_OK)
+    if (answer == ANSWER_DONE)
         answer = look_at_sessions(s);
-    if (answer == OUTBOX_OK)
+    if (answer == ANSWER_DONE)
         answer = forget_ended(s);
-    if (answer == OUTBOX_OK)
+    if (answer == ANSWER_DONE)
         sender_try_left(s);
-    if (answer == OUTBOX_OK && s->kerberos != NULL)
+    if (answer == ANSWER_DONE && s->kerberos != NULL)
         answer = look_at_hangups(s);
-    return answer == OUTBOX_AGAIN ? OUTBOX_OK : answer; /* then in a second */
+    return answer == ANSWER_AGAIN ? ANSWER_DONE : answer; /* then in a second */
 }
 
 /* Whether sessions that are held may leave now, or in a moment. */
@@ -384,31 +384,31 @@ static int is_drained(struct sender *s, int texts)
 }
 
 /* Tells that a session is stopped, and stores the receipt that did it. */
-static enum outbox_answer tell_stop(struct sender *s, struct sending *it)
+static enum answer tell_stop(struct sender *s, struct sending *it)
 {
-    enum outbox_answer begun = outbox_begin(&s->outbox);
-    if (begun != OUTBOX_OK)
+    enum answer begun = outbox_begin(&s->outbox);
+    if (begun != ANSWER_DONE)
         return begun;
-    if (sender_tell_stopped(s, it->of.name, it->reason, it->stopped_since) != 0
-        || (it->stop != NULL && outbox_set_stop(&s->outbox, &it->of, it->stop) != 0)
-        || outbox_commit(&s->outbox) != 0) {
+    if (sender_tell_stopped(s, it->of.name, it->reason, it->stopped_since) != ANSWER_DONE
+        || (it->stop != NULL && outbox_set_stop(&s->outbox, &it->of, it->stop) != ANSWER_DONE)
+        || outbox_commit(&s->outbox) != ANSWER_DONE) {
         outbox_rollback(&s->outbox);
-        return OUTBOX_AGAIN;
+        return ANSWER_AGAIN;
     }
     free(it->stop);
     it->stop = NULL;
-    return OUTBOX_OK;
+    return ANSWER_DONE;
 }
 
 /* Tells which sessions are stopped. */
-static enum outbox_answer tell_untold(struct sender *s)
+static enum answer tell_untold(struct sender *s)
 {
-    enum outbox_answer answer = OUTBOX_OK;
-    while (s->untold.count > 0 && answer == OUTBOX_OK) {
+    enum answer answer = ANSWER_DONE;
+    while (s->untold.count > 0 && answer == ANSWER_DONE) {
         answer = tell_stop(s, s->untold.at[s->untold.count - 1]);
-        s->untold.count -= answer == OUTBOX_OK;
+        s->untold.count -= answer == ANSWER_DONE;
     }
-    return answer == OUTBOX_AGAIN ? OUTBOX_OK : answer;
+    return answer == ANSWER_AGAIN ? ANSWER_DONE : answer;
 }
 
 /* Loads the sessions, once the last receipts were read and what stopped sessions is stored: at the start, where the file
@@ -430,7 +430,7 @@ static int have_begun(struct sender *s)
     if (s->is_unknown)
         sender_forget(s);
     s->is_unknown = 0;
-    s->has_begun = sender_begin(s) == 0;
+    s->has_begun = sender_begin(s) == ANSWER_DONE;
     s->begins = now + SECOND;
     return s->has_begun;
 }
@@ -452,13 +452,13 @@ static uint64_t next_time(struct sender *s)
 }
 
 /* Stores what waits: 1 if there was anything, 0 if not. */
-static int keep(struct sender *s, int texts, enum outbox_answer *answer)
+static int keep(struct sender *s, int texts, enum answer *answer)
 {
     uint64_t began = nanoseconds(), sealing = s->sealing.nanoseconds;
     if (!texts && (s->dirty.count == 0 || milliseconds() - s->kept_moment < KEPT))
         return 0;
     *answer = store(s, texts);
-    if (*answer == OUTBOX_AGAIN)
+    if (*answer == ANSWER_AGAIN)
         s->rests = milliseconds() + PAUSE;
     s->storing += nanoseconds() - began - (s->sealing.nanoseconds - sealing);
     return 1;
@@ -476,7 +476,7 @@ static uint64_t rest(struct sender *s, int has_done)
 }
 
 /* Stores what waits, and publishes what is stored. 1 if all is done that can be. */
-static int relay(struct sender *s, enum outbox_answer *answer, uint64_t *until)
+static int relay(struct sender *s, enum answer *answer, uint64_t *until)
 {
     uint64_t began;
     size_t rose;
@@ -484,7 +484,7 @@ static int relay(struct sender *s, enum outbox_answer *answer, uint64_t *until)
     if (is_drained(s, texts))
         return 1;
     has_kept = keep(s, texts, answer);
-    if (*answer < 0)
+    if (outbox_is_lost(*answer))
         return 1;
     began = nanoseconds();
     receipts_hear(s);
@@ -497,19 +497,19 @@ static int relay(struct sender *s, enum outbox_answer *answer, uint64_t *until)
     return 0;
 }
 
-int sender_step(struct sender *s, enum outbox_answer *answer, uint64_t *until)
+int sender_step(struct sender *s, enum answer *answer, uint64_t *until)
 {
-    *answer = OUTBOX_OK;
+    *answer = ANSWER_DONE;
     *until = s->rests;
     s->hears = 0;
     if (milliseconds() < s->rests)
         return 0;
     *answer = look(s);
-    if (*answer == OUTBOX_OK)
+    if (*answer == ANSWER_DONE)
         *answer = tell_untold(s);
-    if (*answer >= 0 && s->has_lost)
-        *answer = OUTBOX_FAULT; /* there was no memory for a receipt: it is read at the next start */
-    if (*answer < 0)
+    if (!outbox_is_lost(*answer) && s->has_lost)
+        *answer = ANSWER_FAULT; /* there was no memory for a receipt: it is read at the next start */
+    if (outbox_is_lost(*answer))
         return 1;
     if (have_begun(s))
         return relay(s, answer, until);
@@ -519,45 +519,45 @@ int sender_step(struct sender *s, enum outbox_answer *answer, uint64_t *until)
 
 /* ---- */
 
-static int make_memory(struct sender *s)
+static enum answer make_memory(struct sender *s)
 {
-    int is_made = seal_begin(&s->sealing, &s->outbox, s->options.batch) == 0;
+    int is_made = seal_begin(&s->sealing, &s->outbox, s->options.batch) == ANSWER_DONE;
     s->opening = malloc(OPENING);
     if (is_made && s->opening != NULL)
-        return 0;
+        return ANSWER_DONE;
     log_system("out_of_memory", "sender");
-    return -1;
+    return ANSWER_FAULT;
 }
 
-static int open_kerberos(struct sender *s)
+static enum answer open_kerberos(struct sender *s)
 {
     s->kerberos = kerberos_open(&s->options.kerberos, s->options.kerberos.client);
     s->tickets = s->kerberos != NULL ? tickets_open(&s->options.kerberos) : NULL;
-    return s->tickets != NULL ? 0 : -1;
+    return s->tickets != NULL ? ANSWER_DONE : ANSWER_FAULT;
 }
 
-int sender_open(struct sender *s)
+enum answer sender_open(struct sender *s)
 {
     s->sessions = s->options.sessions != NULL ? sessions_read(s->options.sessions)
                                               : sessions_empty();
-    if (s->sessions == NULL || make_memory(s) != 0)
-        return -1;
+    if (s->sessions == NULL || make_memory(s) != ANSWER_DONE)
+        return ANSWER_FAULT;
     s->carrier = carrier_open(&s->options.carrier);
     if (s->carrier == NULL) /* the outbox stays with whoever has it */
-        return -1;
-    if (s->options.kerberos.keytab != NULL && open_kerberos(s) != 0)
-        return -1;
-    if (outbox_open(&s->outbox, s->options.outbox) != 0
-        || outbox_bound(&s->outbox, s->options.most_waiting) != 0)
-        return -1;
-    if (s->kerberos != NULL && outbox_wrap_anew(&s->outbox, s->kerberos) != 0)
-        return -1;
-    if (outbox_renewed(&s->outbox, &s->renew) != 0 || sender_begin_showing() != 0)
-        return -1;
+        return ANSWER_FAULT;
+    if (s->options.kerberos.keytab != NULL && open_kerberos(s) != ANSWER_DONE)
+        return ANSWER_FAULT;
+    if (outbox_open(&s->outbox, s->options.outbox) != ANSWER_DONE
+        || outbox_bound(&s->outbox, s->options.most_waiting) != ANSWER_DONE)
+        return ANSWER_FAULT;
+    if (s->kerberos != NULL && outbox_wrap_anew(&s->outbox, s->kerberos) != ANSWER_DONE)
+        return ANSWER_FAULT;
+    if (outbox_renewed(&s->outbox, &s->renew) != ANSWER_DONE || sender_begin_showing() != 0)
+        return ANSWER_FAULT;
     if (s->options.metrics != NULL && service_listen(s->options.metrics) != 0)
-        return -1;
+        return ANSWER_FAULT;
     s->rose = s->told = nanoseconds();
-    return 0;
+    return ANSWER_DONE;
 }
 
 void sender_close(struct sender *s)

@@ -101,25 +101,24 @@ struct sender {
     uint64_t looked;            /* when it was looked whether the outbox is this process's */
 };
 
-/* Opens all that its options name, of a sender that has nothing else. 0, or -1 after a fault: it has to be closed then
- * too. */
-int sender_open(struct sender *s);
+/* Opens all that its options name, of a sender that has nothing else. After a fault it has to be closed too. */
+enum answer sender_open(struct sender *s);
 
-/* One round. 1 if all is done that can be, or if the answer is a fault or OUTBOX_TAKEN. Else the next one is due at
+/* One round. 1 if all is done that can be, or if the answer is a fault or ANSWER_TAKEN. Else the next one is due at
  * *until, in milliseconds of the clock that only rises, or as soon as something comes: a text, a receipt. It waits for
  * nothing, but for a database that another process has locked, and in calls of a carrier that wait (carrier.h). */
-int sender_step(struct sender *s, enum outbox_answer *answer, uint64_t *until);
+int sender_step(struct sender *s, enum answer *answer, uint64_t *until);
 
 void sender_close(struct sender *s);
 
 /* Tells in the outbox and in the log that a session is stopped, and since when, 0 for now. In a transaction. */
-int sender_tell_stopped(struct sender *s, const char *session, const char *reason, uint64_t since);
+enum answer sender_tell_stopped(struct sender *s, const char *session, const char *reason, uint64_t since);
 
 /* The same in a transaction of its own. */
-enum outbox_answer sender_stop(struct sender *s, const char *session, const char *reason);
+enum answer sender_stop(struct sender *s, const char *session, const char *reason);
 
 /* It isn't any more: the outbox says so, in a transaction of its own. */
-enum outbox_answer sender_end_stop(struct sender *s, const char *session);
+enum answer sender_end_stop(struct sender *s, const char *session);
 
 /* ---- sender_sessions.c */
 
@@ -127,27 +126,26 @@ enum outbox_answer sender_end_stop(struct sender *s, const char *session);
  * a fault of the outbox, or out of memory. */
 struct sending *sender_add(struct sender *s, const struct session *of, struct begun *begun);
 
-/* The session that takes the texts of this name: 1, 0 if there is none, -1 after a fault. In a
- * transaction. */
-int sender_find(struct sender *s, const char *name, struct sending **it);
+/* Finds the session that takes the texts of this name. In a transaction. */
+enum answer sender_find(struct sender *s, const char *name, struct sending **it);
 
-/* Makes a session what the outbox has: 0, or -1 after a fault. */
-int sender_load(struct sender *s, struct sending *it);
+/* Makes a session what the outbox has. */
+enum answer sender_load(struct sender *s, struct sending *it);
 
-/* Makes its history that of the frames that the outbox has: 0, or -1 where it can't be read now. */
-int sender_read_history(struct sender *s, struct sending *it);
+/* Makes its history that of the frames that the outbox has. */
+enum answer sender_read_history(struct sender *s, struct sending *it);
 
-/* Loads the sessions that have frames or that a receipt stopped, and tells those that have no line or whose key can't be
- * read: 0, or -1 after a fault. Forgets all, so that they are loaded anew. */
-int sender_begin(struct sender *s);
+/* Loads the sessions that have frames or that a receipt stopped, and tells those that have no line or whose key can't
+ * be read. Forgets all, so that they are loaded anew. */
+enum answer sender_begin(struct sender *s);
 void sender_forget(struct sender *s);
 
 /* ---- sender_openings.c: sessions that begin by tickets. */
 
-/* The session of this name, if the outbox has it; that of this stream, which is begun if there is
- * none: 1, 0 if there is none, or its key can't be read, -1 after a fault, or SENDER_LATER. */
-int sender_find_begun(struct sender *s, const char *name, struct sending **it);
-int sender_find_stream(struct sender *s, const char *name, struct sending **it);
+/* Finds the session of this name, if the outbox has it, or that of this stream, which is begun if there is none.
+ * ANSWER_DONE: there is none, or its key can't be read. */
+enum answer sender_find_begun(struct sender *s, const char *name, struct sending **it);
+enum answer sender_find_stream(struct sender *s, const char *name, struct sending **it);
 
 /* Whether the session's next text is to be the first one of the stream's next session. */
 int sender_is_old(const struct sender *s, const struct sending *it);
@@ -155,12 +153,12 @@ int sender_is_old(const struct sender *s, const struct sending *it);
 /* Whether frames of the session before it in its stream aren't carried. */
 int sender_is_after(const struct sender *s, const struct sending *it);
 
-/* Notes in what its opening says the history of the session before it, if that is known: 0, or -1 after a fault. */
-int sender_note_before(struct sender *s, struct sending *it);
+/* Notes in what its opening says the history of the session before it, if that is known. */
+enum answer sender_note_before(struct sender *s, struct sending *it);
 
 /* Closes it, and gives the next one. `id` is the text's. Where the keytab can't be read, it goes on as it is. Within a
  * transaction, after which sender_note_renewed is called of each session from which something was sealed. */
-enum seal_answer sender_renew(struct sender *s, struct sending **it, sqlite3_int64 id);
+enum answer sender_renew(struct sender *s, struct sending **it, sqlite3_int64 id);
 void sender_note_renewed(struct sending *it, int is_kept);
 
 void sender_forget_streams(struct sender *s);
@@ -177,7 +175,7 @@ void sender_try_left(struct sender *s);
 int intake_wait(struct sender *s);
 
 /* Takes them, within a transaction. */
-enum seal_answer intake_take(struct sender *s);
+enum answer intake_take(struct sender *s);
 
 /* The transaction was given up, which began when all texts up to this one were looked at. */
 void intake_give_up(struct sender *s, sqlite3_int64 seen);
@@ -202,8 +200,8 @@ size_t turns_count_carried(struct sender *s);
 /* Whether a lane has the session, by its answer to a call: that it hasn't is never, and told. */
 int turns_has(const struct sending *it, enum krbrelay_answer answer);
 
-/* Takes the session's end from its shard's lane: 0, or -1 where it has none. */
-int turns_look(struct sender *s, struct sending *it);
+/* Takes the session's end from its shard's lane. */
+enum answer turns_look(struct sender *s, struct sending *it);
 
 /* Something has happened to the session: what is counted of it is counted anew. */
 void turns_note(struct sender *s, struct sending *it);

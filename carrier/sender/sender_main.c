@@ -77,9 +77,9 @@ static const struct usage usage = {
 };
 /* end of rows */
 
-static enum outbox_answer serve(struct sender *s)
+static enum answer serve(struct sender *s)
 {
-    enum outbox_answer answer = OUTBOX_OK;
+    enum answer answer = ANSWER_DONE;
     struct waiting waiting;
     uint64_t until = 0;
     waiting_begin(&waiting, 0);
@@ -93,7 +93,7 @@ static enum outbox_answer serve(struct sender *s)
     }
     waiting_end(&waiting);
     service_tell_end();
-    return answer == OUTBOX_AGAIN ? OUTBOX_OK : answer;
+    return answer == ANSWER_AGAIN ? ANSWER_DONE : answer;
 }
 
 static int work(struct sender *s)
@@ -101,23 +101,23 @@ static int work(struct sender *s)
     uint64_t began = nanoseconds();
     size_t held;
     uint64_t stopped;
-    enum outbox_answer answer = sender_open(s) == 0 ? serve(s) : OUTBOX_FAULT;
+    enum answer answer = sender_open(s) == ANSWER_DONE ? serve(s) : ANSWER_FAULT;
     log_fact(LEVEL_INFO, "sender_ended", field_number("frames", s->sealing.frames),
              field_number("published", s->published), field_number("again", s->again),
              field_seconds("seconds", nanoseconds() - began),
              field_seconds("sealing", s->sealing.nanoseconds),
              field_seconds("outbox", s->storing), field_seconds("carrier", s->carrying));
-    if (answer == OUTBOX_TAKEN)
+    if (answer == ANSWER_TAKEN)
         log_fact(LEVEL_ERROR, "outbox_taken", field_text("file", s->options.outbox),
                  field_text("text", "another sender has taken it over: this one ends"));
     held = s->held;
     stopped = 0;
-    if (answer >= 0 && outbox_count_stopped(&s->outbox, &stopped) != 0)
-        answer = OUTBOX_FAULT; /* whether all could be sent isn't known */
+    if (!outbox_is_lost(answer) && outbox_count_stopped(&s->outbox, &stopped) != ANSWER_DONE)
+        answer = ANSWER_FAULT; /* whether all could be sent isn't known */
     sender_close(s);
     log_end();
-    if (answer < 0)
-        return answer == OUTBOX_TAKEN ? 3 : !is_ending();
+    if (outbox_is_lost(answer))
+        return answer == ANSWER_TAKEN ? 3 : !is_ending();
     return s->options.drain && !is_ending() && stopped + held > 0 ? 4 : 0;
 }
 

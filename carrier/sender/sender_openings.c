@@ -48,31 +48,31 @@ static unsigned shard_of(const struct sender *s, const struct stream *stream,
     return last != NULL ? last->opened.shard : kerberos_shard(&s->options.kerberos, stream->name);
 }
 
-/* Adds a session for which all but the key is said: 1, 0 if there is no key under which it could be wrapped, -1 after
- * a fault. */
-static int add_new(struct sender *s, struct stream *stream, struct begun *it, struct sending **added)
+/* Adds a session for which all but the key is said. ANSWER_DONE: there is no key under which it could be wrapped. */
+static enum answer add_new(struct sender *s, struct stream *stream, struct begun *it, struct sending **added)
 {
     struct wrapped *wrapped = malloc(sizeof *wrapped);
     int can_wrap = 0;
     *added = NULL;
     if (wrapped == NULL || opening_draw(s->kerberos, &it->opened) != 0) {
         free(wrapped);
-        return -1;
+        return ANSWER_FAULT;
     }
     can_wrap = outbox_wrap(s->kerberos, it, wrapped) == 0;
     if (can_wrap)
         *added = add(s, stream, it, wrapped);
-    if (*added == NULL)
-        free(wrapped);
-    return can_wrap && *added == NULL ? -1 : can_wrap;
+    if (*added != NULL)
+        return ANSWER_FOUND;
+    free(wrapped);
+    return can_wrap ? ANSWER_FAULT : ANSWER_DONE;
 }
 
 /* Begins the next session of a stream. Its key is wrapped before anything is sealed under it, so that no transaction,
  * which has texts of other sessions too, waits for the keytab. Answers as add_new. */
-static int begin(struct sender *s, struct stream *stream, const struct begun *last, struct sending **added)
+static enum answer begin(struct sender *s, struct stream *stream, const struct begun *last, struct sending **added)
 {
     struct begun it = { 0 };
-    int answer;
+    enum answer answer;
     memcpy(it.opened.stream, stream->name, sizeof it.opened.stream);
     it.turn = 1;
     it.opened.shard = shard_of(s, stream, last);
@@ -91,15 +91,15 @@ static int begin(struct sender *s, struct stream *stream, const struct begun *la
 
 /* ---- Streams */
 
-/* Makes a stream what the outbox has of it: answers as sender_find, 0 if its key can't be read, or wrapped. */
-static int load(struct sender *s, struct stream *stream)
+/* Makes a stream what the outbox has of it: answers as sender_find, ANSWER_DONE if its key can't be read, or wrapped. */
+static enum answer load(struct sender *s, struct stream *stream)
 {
     struct begun last;
-    int found = outbox_find_stream(&s->outbox, s->kerberos, stream->name, &last), answer = 0;
-    if (found == 1 && !last.is_closed)
+    enum answer answer = ANSWER_DONE, found = outbox_find_stream(&s->outbox, s->kerberos, stream->name, &last);
+    if (found == ANSWER_FOUND && !last.is_closed)
         answer = sender_find_begun(s, last.opened.name, &stream->now);
-    else if (found >= 0)
-        answer = begin(s, stream, found == 1 ? &last : NULL, &stream->now);
+    else if (found != ANSWER_FAULT)
+        answer = begin(s, stream, found == ANSWER_FOUND ? &last : NULL, &stream->now);
     explicit_bzero(&last, sizeof last);
     return answer;
 }
@@ -117,27 +117,27 @@ static struct stream *stream_of(struct sender *s, const char *name)
     return NULL;
 }
 
-int sender_find_begun(struct sender *s, const char *name, struct sending **it)
+enum answer sender_find_begun(struct sender *s, const char *name, struct sending **it)
 {
     void *found = tfind(name, &s->by_name, by_name);
     struct stream *stream;
     struct begun row;
-    int is_there;
+    enum answer found_row;
     *it = found != NULL ? *(struct sending **)found : NULL;
     if (*it != NULL)
-        return 1;
-    is_there = outbox_find_begun(&s->outbox, s->kerberos, name, &row);
-    if (is_there < 0)
-        is_there = 0; /* which is reported: its frames stay until its key can be read */
-    stream = is_there ? stream_of(s, row.opened.stream) : NULL;
+        return ANSWER_FOUND;
+    found_row = outbox_find_begun(&s->outbox, s->kerberos, name, &row);
+    stream = found_row == ANSWER_FOUND ? stream_of(s, row.opened.stream) : NULL;
     if (stream != NULL)
         *it = add(s, stream, &row, NULL);
     explicit_bzero(&row, sizeof row);
-    return is_there && *it == NULL ? -1 : is_there;
+    if (found_row != ANSWER_FOUND)
+        return ANSWER_DONE; /* a fault is reported: its frames stay until its key can be read */
+    return *it != NULL ? ANSWER_FOUND : ANSWER_FAULT;
 }
 
 /* The key of a stream that was left can be read now. In a transaction. */
-static int end_stop(struct sender *s, struct stream *stream)
+static enum answer end_stop(struct sender *s, struct stream *stream)
 {
     stream->left = STREAM_TAKEN;
     s->left_tries = 0;
@@ -146,25 +146,25 @@ static int end_stop(struct sender *s, struct stream *stream)
     return outbox_end_stopped(&s->outbox, stream->name);
 }
 
-int sender_find_stream(struct sender *s, const char *name, struct sending **it)
+enum answer sender_find_stream(struct sender *s, const char *name, struct sending **it)
 {
     struct stream *stream;
-    int answer = 1;
+    enum answer answer = ANSWER_FOUND;
     *it = NULL;
     if (!sessions_may_have(name))
-        return 0;
+        return ANSWER_DONE;
     stream = stream_of(s, name);
     if (stream == NULL)
-        return -1;
+        return ANSWER_FAULT;
     if (stream->now == NULL)
-        answer = stream->left == STREAM_LEFT ? 0 : load(s, stream);
-    if (answer == 0) {
+        answer = stream->left == STREAM_LEFT ? ANSWER_DONE : load(s, stream);
+    if (answer == ANSWER_DONE) {
         stream->left = STREAM_LEFT; /* so that no later text of it is taken before this one */
         sender_note_left(s);
     }
-    if (answer == 1 && stream->left == STREAM_TRIED && end_stop(s, stream) != 0)
-        return -1;
-    if (answer == 1)
+    if (answer == ANSWER_FOUND && stream->left == STREAM_TRIED && end_stop(s, stream) != ANSWER_DONE)
+        return ANSWER_FAULT;
+    if (answer == ANSWER_FOUND)
         *it = stream->is_renewed ? stream->next : stream->now;
     return answer;
 }
@@ -204,15 +204,15 @@ int sender_is_after(const struct sender *s, const struct sending *it)
 
 /* ---- A new key */
 
-int sender_note_before(struct sender *s, struct sending *it)
+enum answer sender_note_before(struct sender *s, struct sending *it)
 {
     struct opened *opened = &it->begun->opened;
     struct session of = { .first = 1, .has_opening = 1 };
     struct outbox_progress row;
     if (opened->before[0] == 0 || opened->closed.is_known || !copy_text(of.name, sizeof of.name, opened->before))
-        return 0;
-    if (outbox_load(&s->outbox, &of, &row) != 0)
-        return -1;
+        return ANSWER_DONE;
+    if (outbox_load(&s->outbox, &of, &row) != ANSWER_DONE)
+        return ANSWER_FAULT;
     return outbox_history(&s->outbox, &of, row.done, &row.history, row.next, &opened->closed);
 }
 
@@ -226,20 +226,19 @@ int sender_is_old(const struct sender *s, const struct sending *it)
            || begun->since <= s->renew || it->sealed > NUMBERS;
 }
 
-enum seal_answer sender_renew(struct sender *s, struct sending **it, sqlite3_int64 id)
+enum answer sender_renew(struct sender *s, struct sending **it, sqlite3_int64 id)
 {
     struct sending *old = *it;
     struct stream *stream = old->stream;
-    enum seal_answer answer;
-    int begun = stream->next != NULL ? 1 : begin(s, stream, old->begun, &stream->next);
-    if (begun != 1)
-        return begun == 0 ? SEAL_OK : SEAL_FAULT;
+    enum answer answer = stream->next != NULL ? ANSWER_FOUND : begin(s, stream, old->begun, &stream->next);
+    if (answer != ANSWER_FOUND)
+        return answer;
     answer = seal_close(&s->sealing, old, id);
-    if (answer != SEAL_OK)
+    if (answer != ANSWER_DONE)
         return answer;
     old->is_closing = stream->is_renewed = 1;
     *it = stream->next;
-    return SEAL_OK;
+    return ANSWER_DONE;
 }
 
 void sender_note_renewed(struct sending *it, int is_kept)

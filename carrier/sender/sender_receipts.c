@@ -38,7 +38,7 @@ static enum krbrelay_own own_of(struct sender *s, const struct sending *it, cons
     *own = receipt->history;
     if (!receipt->history.is_known || receipt->n <= it->end.done || receipt->n > it->end.progress.next)
         return KRBRELAY_OWN_UNKNOWN; /* it isn't compared */
-    if (outbox_history(&s->outbox, &it->of, it->kept.done, &it->kept.history, receipt->n, own) != 0)
+    if (outbox_history(&s->outbox, &it->of, it->kept.done, &it->kept.history, receipt->n, own) != ANSWER_DONE)
         return KRBRELAY_OWN_FAULT;
     return own->is_known ? KRBRELAY_OWN_KNOWN : KRBRELAY_OWN_UNKNOWN;
 }
@@ -81,7 +81,7 @@ static enum heard hear_receipt(struct sender *s, struct sending *it, const uint8
     memcpy(said.history, receipt.history.bytes, sizeof said.history);
     if (!turns_has(it, krbrelay_lane_receipt(&s->lanes[it->lane].ends, it->place, &said, own.bytes, own_is,
                                                milliseconds(), &heard))
-        || turns_look(s, it) != 0)
+        || turns_look(s, it) != ANSWER_DONE)
         return HEARD_NOTHING;
     if (heard == KRBRELAY_HEARD_AGAIN)
         return HEARD_FAULT;
@@ -154,28 +154,28 @@ static void forget_node(void *node)
     forget_kept(node);
 }
 
-/* Keeps one more of a session: a carrier has several where the session was in several shards. 0, or -1 if there is no
- * memory. */
-static int keep(struct sender *s, const char *name, const uint8_t *bytes, size_t len)
+/* Keeps one more of a session: a carrier has several where the session was in several shards. A fault: there is
+ * no memory. */
+static enum answer keep(struct sender *s, const char *name, const uint8_t *bytes, size_t len)
 {
     struct kept *it, *first = find_kept(s, name);
     if (len > RECEIPT || strlen(name) >= sizeof it->name)
-        return 0; /* it is none */
+        return ANSWER_DONE; /* it is none */
     it = calloc(1, sizeof *it + len);
     if (it == NULL)
-        return -1;
+        return ANSWER_FAULT;
     memcpy(it->name, name, strlen(name));
     memcpy(it->bytes, bytes, len);
     it->len = len;
     if (first != NULL) {
         it->next = first->next;
         first->next = it;
-        return 0;
+        return ANSWER_DONE;
     }
     if (tsearch(it, &s->kept, by_name) != NULL)
-        return 0;
+        return ANSWER_DONE;
     free(it);
-    return -1;
+    return ANSWER_FAULT;
 }
 
 /* The one that stopped the session before, as the outbox has it. */
@@ -183,7 +183,7 @@ static enum heard hear_stop(struct sender *s, struct sending *it)
 {
     struct stop stop;
     enum heard heard;
-    if (outbox_find_stop(&s->outbox, it->of.name, &stop) != 0)
+    if (outbox_find_stop(&s->outbox, it->of.name, &stop) != ANSWER_DONE)
         return HEARD_FAULT;
     heard = stop.len > 0 ? hear_receipt(s, it, stop.receipt, stop.len) : HEARD_NOTHING;
     if (heard == HEARD_STOPS)
@@ -229,7 +229,7 @@ static void take(struct sender *s, struct sending *it, const uint8_t *bytes, siz
         return;
     }
     list_add(&s->deaf, it, &it->is_deaf);
-    if (keep(s, it->of.name, bytes, len) != 0)
+    if (keep(s, it->of.name, bytes, len) != ANSWER_DONE)
         log_system("out_of_memory", "receipts"); /* its session probes for the next one */
 }
 
@@ -239,7 +239,7 @@ static void hear(void *given, const char *name, const uint8_t *bytes, size_t len
     void *found = tfind(name, &s->by_name, by_name);
     if (found != NULL)
         take(s, *(struct sending **)found, bytes, len);
-    else if (!s->has_heard && may_have(s, name) && keep(s, name, bytes, len) != 0)
+    else if (!s->has_heard && may_have(s, name) && keep(s, name, bytes, len) != ANSWER_DONE)
         s->has_lost = 1;
 }
 
@@ -278,7 +278,7 @@ void receipts_hear(struct sender *s)
     }
     if (!krbrelay_pause_is_over(&s->hearing, milliseconds()))
         return;
-    is_fault = s->carrier->receipts(s->carrier, hear, s) != 0; /* which is reported */
+    is_fault = s->carrier->receipts(s->carrier, hear, s) != ANSWER_DONE; /* which is reported */
     begin_pause(&s->hearing, is_fault);
     s->has_heard |= !is_fault;
     s->is_unheard = is_fault;

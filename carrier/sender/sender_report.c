@@ -82,7 +82,7 @@ static double age_of_oldest(struct sender *s)
 {
     uint64_t since = 0, now = read_clock().seconds;
     int is_there = 0;
-    if (outbox_oldest_text(&s->outbox, &is_there, &since) != 0 || (is_there && since == 0))
+    if (outbox_oldest_text(&s->outbox, &is_there, &since) != ANSWER_DONE || (is_there && since == 0))
         return NAN;
     return is_there && now > since ? (double)(now - since) : 0;
 }

@@ -57,7 +57,7 @@ struct sending *sender_add(struct sender *s, const struct session *of, struct be
     it->tag = s->first_tag + (uint32_t)s->all.count;
     it->is_stored = 1; /* but of a stream's session that begins now */
     it->begun = begun;
-    if (tsearch(it, &s->by_name, by_name) != NULL && sender_load(s, it) == 0)
+    if (tsearch(it, &s->by_name, by_name) != NULL && sender_load(s, it) == ANSWER_DONE)
         heard = receipts_hear_kept(s, it);
     if (heard != HEARD_FAULT) {
         s->all.at[s->all.count++] = it;
@@ -93,13 +93,13 @@ static enum krbrelay_answer load_end(struct sender *s, const struct sending *it)
     return answer;
 }
 
-int sender_load(struct sender *s, struct sending *it)
+enum answer sender_load(struct sender *s, struct sending *it)
 {
     struct outbox_progress row;
     const struct outbox_progress *kept = &it->kept;
     enum krbrelay_answer answer;
-    if (outbox_load(&s->outbox, &it->of, &row) != 0)
-        return -1; /* what is known of it stays */
+    if (outbox_load(&s->outbox, &it->of, &row) != ANSWER_DONE)
+        return ANSWER_FAULT; /* what is known of it stays */
     it->kept = row;
     answer = load_end(s, it);
     if (answer == KRBRELAY_MEMORY)
@@ -109,79 +109,81 @@ int sender_load(struct sender *s, struct sending *it)
                  field_number("next", kept->next), field_number("carried", kept->carried),
                  field_number("done", kept->done),
                  field_text("text", "the outbox has these numbers, which are no progress"));
-    if (answer != KRBRELAY_OK || turns_look(s, it) != 0)
-        return -1;
+    if (answer != KRBRELAY_OK || turns_look(s, it) != ANSWER_DONE)
+        return ANSWER_FAULT;
     it->stands = kept->stands;
     return sender_read_history(s, it);
 }
 
-int sender_read_history(struct sender *s, struct sending *it)
+enum answer sender_read_history(struct sender *s, struct sending *it)
 {
     struct history history = { .is_known = 0 };
     it->is_unread = outbox_history(&s->outbox, &it->of, it->kept.done, &it->kept.history, it->end.progress.next,
-                                   &history) != 0;
+                                   &history) != ANSWER_DONE;
     seal_reset(it, &history);
-    return it->is_unread ? -1 : 0;
+    return it->is_unread ? ANSWER_FAULT : ANSWER_DONE;
 }
 
-int sender_find(struct sender *s, const char *name, struct sending **it)
+enum answer sender_find(struct sender *s, const char *name, struct sending **it)
 {
     void *found = tfind(name, &s->by_name, by_name);
     struct session of;
     int is_there;
     *it = found != NULL ? *(struct sending **)found : NULL;
     if (*it != NULL && (*it)->begun == NULL)
-        return 1;
+        return ANSWER_FOUND;
     is_there = sessions_find(s->sessions, name, &of);
     if (is_there && receipt_key(&of) == 0)
         *it = sender_add(s, &of, NULL);
     explicit_bzero(&of, sizeof of);
     if (is_there)
-        return *it != NULL ? 1 : -1;
-    return s->kerberos != NULL ? sender_find_stream(s, name, it) : 0;
+        return *it != NULL ? ANSWER_FOUND : ANSWER_FAULT;
+    return s->kerberos != NULL ? sender_find_stream(s, name, it) : ANSWER_DONE;
 }
 
 /* A session has frames, and can't be loaded now. */
-static int tell_unloaded(struct sender *s, const char *name)
+static enum answer tell_unloaded(struct sender *s, const char *name)
 {
     if (s->kerberos != NULL)
         sender_note_left(s);
     return sender_stop(s, name, s->kerberos == NULL
                        ? "it has frames that aren't carried, and no line among the sessions"
                        : "it has frames that aren't carried, and no key: is the keytab there, and its"
-                         " line, if it had one?") == OUTBOX_FAULT ? -1 : 0;
+                         " line, if it had one?") == ANSWER_FAULT ? ANSWER_FAULT : ANSWER_DONE;
 }
 
-static int load_named(void *given, const char *name)
+static enum answer load_named(void *given, const char *name)
 {
     struct sender *s = given;
     struct sending *it;
     struct session of;
-    int has_line = sessions_find(s->sessions, name, &of), found;
+    int has_line = sessions_find(s->sessions, name, &of);
+    enum answer found;
     explicit_bzero(&of, sizeof of);
     found = has_line || s->kerberos == NULL ? sender_find(s, name, &it)
                                             : sender_find_begun(s, name, &it);
-    if (found == 0)
+    if (found == ANSWER_DONE)
         return tell_unloaded(s, name);
-    if (found == 1 && s->left_tries > 0 && it->stopped_at == 0 && sender_end_stop(s, name) == OUTBOX_FAULT)
-        return -1; /* that its key can't be read was told before, perhaps of this one */
-    return found < 0 ? -1 : 0;
+    if (found == ANSWER_FOUND && s->left_tries > 0 && it->stopped_at == 0 && sender_end_stop(s, name) == ANSWER_FAULT)
+        return ANSWER_FAULT; /* that its key can't be read was told before, perhaps of this one */
+    return found == ANSWER_FAULT ? ANSWER_FAULT : ANSWER_DONE;
 }
 
 /* One that a receipt stopped, and that has no frame: `stopped` names it again, as long as it has its line. */
-static int load_stopped(void *given, const char *name)
+static enum answer load_stopped(void *given, const char *name)
 {
     struct sender *s = given;
     struct sending *it;
     struct session of;
     int has_line = sessions_find(s->sessions, name, &of);
     explicit_bzero(&of, sizeof of);
-    return has_line && sender_find(s, name, &it) < 0 ? -1 : 0;
+    return has_line && sender_find(s, name, &it) == ANSWER_FAULT ? ANSWER_FAULT : ANSWER_DONE;
 }
 
-int sender_begin(struct sender *s)
+enum answer sender_begin(struct sender *s)
 {
-    return outbox_sessions(&s->outbox, load_named, s) == 0 && outbox_stops(&s->outbox, load_stopped, s) == 0 ? 0 : -1;
+    return outbox_sessions(&s->outbox, load_named, s) == ANSWER_DONE
+           && outbox_stops(&s->outbox, load_stopped, s) == ANSWER_DONE ? ANSWER_DONE : ANSWER_FAULT;
 }
 
 static void keep(void *given)

@@ -38,9 +38,10 @@ int turns_has(const struct sending *it, enum krbrelay_answer answer)
     return answer == KRBRELAY_OK;
 }
 
-int turns_look(struct sender *s, struct sending *it)
+enum answer turns_look(struct sender *s, struct sending *it)
 {
-    return turns_has(it, krbrelay_lane_session(&s->lanes[it->lane].ends, it->place, &it->end)) ? 0 : -1;
+    return turns_has(it, krbrelay_lane_session(&s->lanes[it->lane].ends, it->place, &it->end))
+           ? ANSWER_DONE : ANSWER_FAULT;
 }
 
 /* What is counted of a session is counted anew. */
@@ -49,7 +50,7 @@ static void count_anew(struct sender *s, struct sending *it)
     const struct krbrelay_progress *progress = &it->end.progress;
     struct lane *lane = &s->lanes[it->lane];
     uint64_t stored, undone, known;
-    if (turns_look(s, it) != 0)
+    if (turns_look(s, it) != ANSWER_DONE)
         return; /* never: each session has its place */
     s->held -= it->is_held && progress->sent > 0;
     it->is_held = it->is_held && progress->sent == 0; /* a receipt says that its opening was taken before */
@@ -85,33 +86,33 @@ void turns_stop(struct sender *s, struct sending *it)
 
 /* ---- What leaves */
 
-/* What the carrier answered to a frame that it didn't take. Any other than CARRIER_REFUSED may pass: the frame
+/* What the carrier answered to a frame that it didn't take. Any other than ANSWER_REFUSED may pass: the frame
  * isn't confirmed then, and leaves again. */
-static void note_untaken(struct sender *s, struct sending *it, int answer, uint64_t number)
+static void note_untaken(struct sender *s, struct sending *it, enum answer answer, uint64_t number)
 {
-    if (answer != CARRIER_REFUSED)
+    if (answer != ANSWER_REFUSED)
         return;
     write_cut(it->reason, sizeof it->reason, "the carrier doesn't take frame %llu: is it longer"
               " than its Maximum Payload?", (unsigned long long)number);
     turns_stop(s, it);
 }
 
-static int publish(struct sender *s, struct sending *it, uint64_t number, const uint8_t *frame, size_t len)
+static enum answer publish(struct sender *s, struct sending *it, uint64_t number, const uint8_t *frame, size_t len)
 {
-    int answer = s->carrier->publish(s->carrier, it->of.shard, it->of.name, it->tag, number, frame, len);
-    s->published += answer == 0;
-    if (answer != 0)
+    enum answer answer = s->carrier->publish(s->carrier, it->of.shard, it->of.name, it->tag, number, frame, len);
+    s->published += answer == ANSWER_DONE;
+    if (answer != ANSWER_DONE)
         note_untaken(s, it, answer, number);
     return answer;
 }
 
 /* Publishes a session's opening, which is made anew each time. */
-static int publish_opening(struct sender *s, struct sending *it)
+static enum answer publish_opening(struct sender *s, struct sending *it)
 {
     size_t len = 0;
-    if (sender_note_before(s, it) != 0
+    if (sender_note_before(s, it) != ANSWER_DONE
         || tickets_make_opening(s->tickets, s->kerberos, &it->begun->opened, s->opening, OPENING, &len) != 0)
-        return -1;
+        return ANSWER_FAULT;
     return publish(s, it, 0, s->opening, len);
 }
 
@@ -120,7 +121,8 @@ static int publish_opening(struct sender *s, struct sending *it)
 static void note_missing(struct sender *s, struct sending *it, uint64_t number)
 {
     struct outbox_progress row;
-    if (outbox_load(&s->outbox, &it->of, &row) != 0 || (row.done > number && sender_load(s, it) != 0))
+    if (outbox_load(&s->outbox, &it->of, &row) != ANSWER_DONE || (row.done > number
+        && sender_load(s, it) != ANSWER_DONE))
         return; /* which is reported: the frames leave again after their pause */
     if (row.done > number)
         return;
@@ -137,23 +139,23 @@ static void publish_frames(struct sender *s, struct sending *it, uint64_t from, 
     const uint8_t *frame;
     uint64_t number = 0, end = from + limit;
     size_t len;
-    int answer = 0, row = 1;
+    enum answer answer = ANSWER_DONE, row = ANSWER_FOUND;
     if (it->begun != NULL && from == 0 && end > 0)
         answer = publish_opening(s, it);
     from += it->begun != NULL && from == 0;
     outbox_select_frames(&s->outbox, it->of.name, from, (unsigned)limit);
-    while (answer == 0 && row == 1 && from < end) {
+    while (answer == ANSWER_DONE && row == ANSWER_FOUND && from < end) {
         row = outbox_next_frame(&s->outbox, &number, &frame, &len);
-        if (row == 1 && number != from)
-            row = 0;
-        if (row == 1)
+        if (row == ANSWER_FOUND && number != from)
+            row = ANSWER_DONE;
+        if (row == ANSWER_FOUND)
             answer = publish(s, it, from++, frame, len);
     }
     outbox_end_frames(&s->outbox);
-    if (row < 0)
+    if (row == ANSWER_FAULT)
         log_fact(LEVEL_ERROR, "frame_unread", field_text("session", it->of.name), field_number("number", from),
                  field_text("text", "the outbox has it, and can't be read there: tried again"));
-    if (row == 0)
+    if (row == ANSWER_DONE)
         note_missing(s, it, from);
 }
 
@@ -226,7 +228,7 @@ static uint64_t serve(struct sender *s, struct sending *it, const struct krbrela
 static void find_list(struct sender *s, struct lane *lane)
 {
     uint64_t list = 0;
-    int has_list = s->carrier->make(s->carrier, lane->shard, &list) == 0 && list != 0;
+    int has_list = s->carrier->make(s->carrier, lane->shard, &list) == ANSWER_DONE && list != 0;
     lane->unlisted = has_list ? 0 : lane->unlisted != 0 ? lane->unlisted : milliseconds();
     if (krbrelay_lane_listed(&lane->ends, (uint32_t)has_list, list) == KRBRELAY_OK)
         lane->has_list = has_list;
@@ -336,9 +338,11 @@ size_t turns_count_carried(struct sender *s)
 {
     struct confirmed list[COUNTED];
     struct sending *last = NULL;
-    size_t rose = 0;
-    int i, found = s->carrier->confirmed(s->carrier, list, COUNTED);
-    uint64_t now = milliseconds();
+    size_t rose = 0, i, found = 0;
+    uint64_t now;
+    if (s->carrier->confirmed(s->carrier, list, COUNTED, &found) != ANSWER_DONE)
+        return 0; /* which is reported: the frames leave again */
+    now = milliseconds();
     for (i = 0; i < found; i++) {
         struct sending *it = of_tag(s, list[i].tag);
         if (it == NULL || !take_confirmed(s, it, &list[i], now))

@@ -118,7 +118,7 @@ int box_is_done(const struct box *it)
     unsigned name, i;
     for (name = 0; name < world.names; name++)
         for (i = it->count[name]; i > 0; i--)
-            if (world.name[name].outcome[it->marks[name][i - 1].serial] == NOTHING_YET)
+            if (world.name[name].fate[it->marks[name][i - 1].serial] == NOTHING_YET)
                 return 0;
     return 1;
 }

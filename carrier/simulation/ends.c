@@ -87,16 +87,16 @@ static void start_sender(int party)
     it->options = (struct options){ .carrier = { .where = "memory", .replicas = 1 }, .kerberos = kerberos(),
                                     .life = has(KIND_TICKETS) ? LIFE : LONG_LIFE, .sessions = sessions_path,
                                     .outbox = of->path, .batch = 1, .most_waiting = has(KIND_BOUNDED) ? WAITING : 0 };
-    world.is_up[party] = sender_open(it) == 0;
+    world.is_up[party] = sender_open(it) == ANSWER_DONE;
 }
 
 static void step_sender(int party)
 {
-    enum outbox_answer answer = OUTBOX_OK;
-    if (!sender_step(&senders[party - SENDER], &answer, &until) && answer >= 0)
+    enum answer answer = ANSWER_DONE;
+    if (!sender_step(&senders[party - SENDER], &answer, &until) && !outbox_is_lost(answer))
         return;
     world.is_up[party] = 0;
-    world.was_taken[party - SENDER] = answer == OUTBOX_TAKEN;
+    world.was_taken[party - SENDER] = answer == ANSWER_TAKEN;
 }
 
 static void stop_sender(int party)
@@ -111,7 +111,7 @@ static void start_receiver(int party)
     unsigned i = (unsigned)(party - RECEIVER);
     has_opened[i] = 0;
     threads_prepare(&receivers[i], i % SHARDS);
-    world.is_up[party] = has_opened[i] = threads_open(&receivers[i]) == 0;
+    world.is_up[party] = has_opened[i] = threads_open(&receivers[i]) == ANSWER_DONE;
 }
 
 static void step_receiver(int party)
@@ -242,7 +242,7 @@ void ends_begin(void)
     world.shown = has(KIND_LATER) ? world.names - 1 : 0;
     happened(KIND_LATER, has(KIND_LATER) != 0);
     ends_write_sessions();
-    if (threads_begin(&shards, sessions_empty(), 1, NULL) != 0)
+    if (threads_begin(&shards, sessions_empty(), 1, NULL) != ANSWER_DONE)
         exit(2);
     ends_use_sessions(0);
     world.shown = 0;

@@ -14,12 +14,12 @@ static struct items { struct item *at; size_t count, room; uint64_t incarnation;
 static uint64_t turns;
 
 /* A confirmation that is under way. */
-struct answer { uint64_t due; struct confirmed it; struct answer *next; };
+struct confirmation { uint64_t due; struct confirmed it; struct confirmation *next; };
 
 /* One end's connection. */
 struct connection {
     struct carrier base;
-    struct answer *answers;
+    struct confirmation *confirmations;
     unsigned shard;
     uint64_t after, incarnation; /* it reads that list of the shard from there on */
     uint64_t heard;              /* receipts up to this turn */
@@ -141,34 +141,34 @@ static int fails(void)
 
 /* ---- The port, of who publishes */
 
-static int incarnation_of(struct carrier *base, unsigned shard, uint64_t *incarnation, uint64_t *end)
+static enum answer incarnation_of(struct carrier *base, unsigned shard, uint64_t *incarnation, uint64_t *end)
 {
     struct connection *c = (struct connection *)base;
     if (fails())
-        return CARRIER_FAULT;
+        return ANSWER_FAULT;
     c->incarnation = *incarnation = shards[shard].incarnation;
     *end = shards[shard].count;
-    return 0;
+    return ANSWER_DONE;
 }
 
-static int make(struct carrier *base, unsigned shard, uint64_t *incarnation)
+static enum answer make(struct carrier *base, unsigned shard, uint64_t *incarnation)
 {
     *incarnation = shards[shard].incarnation;
-    return 0;
+    return ANSWER_DONE;
 }
 
 /* Confirmations come in the order of what they are of, as those of a stream do. */
-static int confirm(struct connection *c, unsigned shard, uint32_t tag, uint64_t number)
+static enum answer confirm(struct connection *c, unsigned shard, uint32_t tag, uint64_t number)
 {
-    struct answer *it = calloc(1, sizeof *it), **end = &c->answers;
+    struct confirmation *it = calloc(1, sizeof *it), **end = &c->confirmations;
     if (it == NULL)
-        return CARRIER_FAULT;
+        return ANSWER_FAULT;
     it->due = moment() + drawn(CONFIRMED_WITHIN) * MILLISECOND;
     it->it = (struct confirmed){ tag, number, shards[shard].count };
     for (; *end != NULL; end = &(*end)->next)
         it->due = (*end)->due > it->due ? (*end)->due : it->due;
     *end = it;
-    return 0;
+    return ANSWER_DONE;
 }
 
 static void count_published(unsigned shard, const char *session, uint64_t number)
@@ -181,12 +181,12 @@ static void count_published(unsigned shard, const char *session, uint64_t number
     happened(KIND_SILENT, faults.is_silent != 0);
 }
 
-static int publish(struct carrier *base, unsigned shard, const char *session, uint32_t tag, uint64_t number,
-                   const uint8_t *frame, size_t len)
+static enum answer publish(struct carrier *base, unsigned shard, const char *session, uint32_t tag, uint64_t number,
+                           const uint8_t *frame, size_t len)
 {
     count_published(shard, session, number);
     if (faults.is_silent || is_lost_once(&faults.loses_frame))
-        return 0;
+        return ANSWER_DONE;
     if (has(KIND_COPIED) && !faults.is_over && drawn(3) == 0) { /* somebody copies it */
         happened(KIND_COPIED, 1);
         put_frame((shard + 1) % SHARDS, session, frame, len);
@@ -194,38 +194,38 @@ static int publish(struct carrier *base, unsigned shard, const char *session, ui
     if (fails()) {
         if (drawn(HAPPENS_ALL_THE_SAME) == 0)
             put_frame(shard, session, frame, len);
-        return drawn(2) == 0 ? 0 : CARRIER_FAULT;
+        return drawn(2) == 0 ? ANSWER_DONE : ANSWER_FAULT;
     }
     if (is_struck(faults.lost, KIND_LOST))
-        return 0;
+        return ANSWER_DONE;
     put_frame(shard, session, frame, len);
     if (is_struck(faults.twice, KIND_LOST))
         put_frame(shard, session, frame, len);
     if (is_struck(faults.lost, KIND_LOST) || is_lost_once(&faults.loses_confirmation))
-        return 0;
+        return ANSWER_DONE;
     seen.second.under_way[shard] -= seen.second.under_way[shard] > 0;
     return confirm((struct connection *)base, shard, tag, number);
 }
 
-static void drop_answer(struct answer **at)
+static void drop_confirmation(struct confirmation **at)
 {
-    struct answer *it = *at;
+    struct confirmation *it = *at;
     *at = it->next;
     free(it);
 }
 
-static int confirmed(struct carrier *base, struct confirmed *list, size_t room)
+static enum answer confirmed(struct carrier *base, struct confirmed *list, size_t room, size_t *count)
 {
-    struct answer **at = &((struct connection *)base)->answers;
-    size_t count = 0;
+    struct confirmation **at = &((struct connection *)base)->confirmations;
+    *count = 0;
     port_is_killed();
-    while (*at != NULL && count < room && (*at)->due <= moment()) {
-        list[count++] = (*at)->it;
-        drop_answer(at);
+    while (*at != NULL && *count < room && (*at)->due <= moment()) {
+        list[(*count)++] = (*at)->it;
+        drop_confirmation(at);
     }
     if (*at != NULL)
         ends_wake(running, (*at)->due);
-    return (int)count;
+    return ANSWER_DONE;
 }
 
 /* ---- Of who reads */
@@ -237,26 +237,26 @@ static void seek(struct carrier *base, unsigned shard, uint64_t offset)
     c->after = offset;
 }
 
-static int fetch(struct carrier *base, struct carried *list, size_t room)
+static enum answer fetch(struct carrier *base, struct carried *list, size_t room, size_t *count)
 {
     struct connection *c = (struct connection *)base;
     const struct items *from = &shards[c->shard];
-    size_t count = 0;
+    *count = 0;
     if (fails())
-        return CARRIER_FAULT;
+        return ANSWER_FAULT;
     if (c->incarnation != from->incarnation || c->after > from->count)
-        return CARRIER_CHANGED;
-    while (count < room && c->after < from->count)
-        list[count++] = from->at[c->after++].it;
-    return (int)count;
+        return ANSWER_CHANGED;
+    while (*count < room && c->after < from->count)
+        list[(*count)++] = from->at[c->after++].it;
+    return ANSWER_DONE;
 }
 
-static int behind(struct carrier *base, uint64_t *frames)
+static enum answer behind(struct carrier *base, uint64_t *frames)
 {
     const struct connection *c = (const struct connection *)base;
     size_t count = shards[c->shard].count;
     *frames = count > c->after ? count - c->after : 0;
-    return 0;
+    return ANSWER_DONE;
 }
 
 /* ---- Receipts: of a session of a shard the last one is kept */
@@ -281,12 +281,12 @@ static void keep_receipt(unsigned shard, const struct carried *receipt)
     kept->turn = ++turns;
 }
 
-static int acknowledge(struct carrier *base, unsigned shard, const struct carried *list, size_t count)
+static enum answer acknowledge(struct carrier *base, unsigned shard, const struct carried *list, size_t count)
 {
     size_t i;
     int party;
     if (fails())
-        return CARRIER_FAULT;
+        return ANSWER_FAULT;
     for (i = 0; i < count; i++) {
         seen.second.receipts[name_of(list[i].session)]++;
         happened(KIND_CALM, faults.loses_receipts != 0);
@@ -295,16 +295,16 @@ static int acknowledge(struct carrier *base, unsigned shard, const struct carrie
     }
     for (party = SENDER; party < SENDER + SENDERS; party++)
         ends_wake(party, moment());
-    return 0;
+    return ANSWER_DONE;
 }
 
-static int give_receipts(struct carrier *base, carrier_receipt *take, void *given)
+static enum answer give_receipts(struct carrier *base, carrier_receipt *take, void *given)
 {
     struct connection *c = (struct connection *)base;
     size_t i;
     seen.second.looks[running]++;
     if (fails())
-        return CARRIER_FAULT;
+        return ANSWER_FAULT;
     seen.second.answered[running]++;
     for (i = 0; i < receipts.count; i++) {
         const struct item *it = &receipts.at[i];
@@ -313,7 +313,7 @@ static int give_receipts(struct carrier *base, carrier_receipt *take, void *give
         c->heard = it->turn;
         take(given, it->it.session, it->bytes, it->it.len);
     }
-    return 0;
+    return ANSWER_DONE;
 }
 
 static void forget_receipt(struct carrier *base, unsigned shard, const char *session)
@@ -337,8 +337,8 @@ static uint64_t not_due(struct carrier *base)
 static void close_carrier(struct carrier *base)
 {
     struct connection *c = (struct connection *)base;
-    while (c->answers != NULL)
-        drop_answer(&c->answers);
+    while (c->confirmations != NULL)
+        drop_confirmation(&c->confirmations);
     free(c);
 }
 

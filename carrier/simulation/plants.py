@@ -14,26 +14,26 @@ FOUND = {
     if (answer == 0)
         answer = s->store->commit""")),
     "what was dropped stays": ("uncommitted", 1, "LOST",
-        ("shard_transaction.c", "return answer > 0 ? KRBRELAY_FAILURE_FENCED : fault_of(s)", "answer = 0")),
+        ("shard_transaction.c", "return answer == ANSWER_ELSEWHERE ? KRBRELAY_FAILURE_FENCED : fault_of(s)", "answer = ANSWER_DONE")),
     "an early frame is taken for nobody's": ("cut", 1, "STANDS",
-        ("shard.c", "if (opens)", "if (opens && number <= of->drafted.number)")),
+        ("shard.c", "if (opens == ANSWER_FOUND)", "if (opens == ANSWER_FOUND && number <= of->drafted.number)")),
     "a repeat is taken for nobody's": ("lost+killed", 19, "STANDS",
-        ("shard.c", "if (opens)", "if (opens && number >= of->drafted.number)")),
+        ("shard.c", "if (opens == ANSWER_FOUND)", "if (opens == ANSWER_FOUND && number >= of->drafted.number)")),
     "a refused frame is taken for nobody's": ("skewed", 3, "UNTRUE",
-        ("shard.c", "if (opens)", "if (opens && number != of->drafted.number)")),
+        ("shard.c", "if (opens == ANSWER_FOUND)", "if (opens == ANSWER_FOUND && number != of->drafted.number)")),
     "a frame is accepted at any number": ("lost", 1, "OVERTAKEN", ("shard.c", "taken =", """\
 taken = &s->together.taken[place - s->together.first];
     if (taken->answer == KRBRELAY_BADORDER && taken->number != UINT64_MAX && taken->number > of->drafted.number) {
         of->drafted.number = taken->number;
         krbrelay_receiver_free(&of->receiver);
         of->is_made = 0;
-        if (make_receiver(s, of) != 0)
-            return EFFECT_FAULT;
+        if (make_receiver(s, of) != ANSWER_DONE)
+            return ANSWER_FAULT;
         take_together(s, of, place, end);
     }
     taken =""")),
     "one item in a read is skipped": ("calm", 1, "LATE", ("shard.c", "s->fetched =", """\
-for (int i = 1; i < count; i++)
+for (size_t i = 1; i < count; i++)
         s->frames[i - 1] = s->frames[i];
     count -= count > 1;
     s->fetched =""")),
@@ -53,14 +53,14 @@ next = ?7 AND closed = ?8 AND missed = ?9"
                       " AND at = ?10 AND shard = ?11""", """\
 ?7 IS NOT NULL AND ?8 IS NOT NULL AND ?9 IS NOT NULL"
                       " AND ?10 IS NOT NULL AND ?11 IS NOT NULL""")),
-    "frames leave before they are stored": ("uncommitted", 1, "STANDS", ("sender.c", "SEAL_OK && outbox_commit", """\
-SEAL_OK && outbox_insert(&s->outbox) == 0) {
+    "frames leave before they are stored": ("uncommitted", 1, "STANDS", ("sender.c", "answer == ANSWER_DONE && outbox_commit", """\
+answer == ANSWER_DONE && outbox_insert(&s->outbox) == ANSWER_DONE) {
         note_kept(s);
         (void)turns_all(s);
     }
-    if (answer == SEAL_OK && outbox_commit""")),
+    if (answer == ANSWER_DONE && outbox_commit""")),
     "after a fault of the outbox nothing is loaded again": ("outbox_unknown", 2, "UNTOLD",
-        ("sender.c", "answer == SEAL_OK; /* the commit may have happened */", "0;")),
+        ("sender.c", "answer == ANSWER_DONE; /* the commit may have happened */", "0;")),
     "an outbox takes transactions of two senders": ("taken_over", 1, "UNTRUE", ("outbox.c", "turn ==", "turn >="),
         ("outbox.c", "AND next = ?3", "AND ?3 IS NOT NULL")),
     "what was told is forgotten where a key is tried again": ("forked+tickets+keys", 103, "UNTOLD",
@@ -85,7 +85,7 @@ if (nanoseconds() > 30 * SECOND && nanoseconds() < 500 * SECOND) {
     "frames that are done stay": ("calm", 1, "KEPT",
         ("sender.c", "outbox_drop_done", "now.done == 0 && outbox_drop_done")),
     "sessions that have ended stay": ("calm+tickets", 2, "KEPT",
-        ("sender.c", "outbox_forget_ended(&s->outbox, it->begun, &s->ended) != 0",
+        ("sender.c", "outbox_forget_ended(&s->outbox, it->begun, &s->ended) != ANSWER_DONE",
          "(it->begun->turn == 0 && outbox_forget_ended(&s->outbox, it->begun, &s->ended) != 0)")),
     "receipts of sessions that have ended stay": ("calm+tickets", 2, "KEPT",
         ("sender.c", "ended.count;", "ended.count && s->carrier == NULL;")),

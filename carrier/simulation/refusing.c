@@ -35,7 +35,7 @@ static void be_slow(void)
     party_killed();
 }
 
-WRAPPED(int, take_effect, struct store *store, const struct arrived *it)
+WRAPPED(enum answer, take_effect, struct store *store, const struct arrived *it)
 {
     unsigned name = name_of(it->stream[0] != 0 ? it->stream : it->session);
     unsigned serial = it->len == 2 ? (unsigned)it->text[0] << 8 | it->text[1] : MOST_TEXTS;
@@ -49,5 +49,5 @@ WRAPPED(int, take_effect, struct store *store, const struct arrived *it)
         return __real_take_effect(store, it);
     happened(has(KIND_REFUSED_MANY) ? KIND_REFUSED_MANY : has(KIND_REFUSED) ? KIND_REFUSED : KIND_REFUSED_A_WHILE, 1);
     (void)store_run(store, poison->is_error ? error : constraint, NULL, 0); /* the store refuses both */
-    return -1;
+    return ANSWER_FAULT;
 }

@@ -60,7 +60,7 @@ static int has_order(void)
     return !world.boxes[1].is_used;
 }
 
-static void see(enum outcome outcome, char **values)
+static void see(enum fate fate, char **values)
 {
     unsigned name = name_of(values[2][0] != 0 ? values[2] : values[1]);
     unsigned serial = (unsigned)strtoul(values[3], NULL, 16);
@@ -69,14 +69,14 @@ static void see(enum outcome outcome, char **values)
         rule_broken(RULE_CHANGED, "session %s has an effect of no text", values[1]);
         return;
     }
-    if (it->outcome[serial] != NOTHING_YET)
+    if (it->fate[serial] != NOTHING_YET)
         rule_broken(RULE_DOUBLED, "s%u text %u took effect twice", name, serial);
-    it->outcome[serial] = (unsigned char)outcome;
-    happened(KIND_ASIDE, outcome == PUT_ASIDE);
-    if (outcome == PUT_ASIDE && seen.runs[name][serial] < TRIES)
+    it->fate[serial] = (unsigned char)fate;
+    happened(KIND_ASIDE, fate == PUT_ASIDE);
+    if (fate == PUT_ASIDE && seen.runs[name][serial] < TRIES)
         rule_broken(RULE_ASIDE_EARLY, "s%u text %u was put aside after %u tries", name, serial, seen.runs[name][serial]);
     it->took_in[serial] = digest_of(values[1], strlen(values[1]));
-    if (outcome != TOOK_EFFECT)
+    if (fate != TOOK_EFFECT)
         return;
     if (has_order() && serial < it->last)
         rule_broken(RULE_OVERTAKEN, "s%u text %u took effect after text %u", name, serial, it->last);
@@ -86,14 +86,14 @@ static void see(enum outcome outcome, char **values)
     it->last = serial > it->last ? serial : it->last;
 }
 
-/* A table of a shard's store: what its rows are the outcome of, and the last one that was seen. */
-struct table { enum outcome outcome; sqlite3_int64 last; };
+/* A table of a shard's store: what its rows are the fate of, and the last one that was seen. */
+struct table { enum fate fate; sqlite3_int64 last; };
 
 static int take_row(void *given, int count, char **values, char **names)
 {
     struct table *table = given;
     table->last = atoll(values[0]);
-    see(table->outcome, values);
+    see(table->fate, values);
     return 0;
 }
 
@@ -181,7 +181,7 @@ static int take_said(void *given, int count, char **values, char **names)
     return 0;
 }
 
-/* Each text is in its outbox, or it had its outcome. Answers how many of them had none. */
+/* Each text is in its outbox, or has met its fate. Answers how many of them had none. */
 static unsigned look_at_texts(const struct box *of, unsigned name)
 {
     const struct name *it = &world.name[name];
@@ -189,7 +189,7 @@ static unsigned look_at_texts(const struct box *of, unsigned name)
     unsigned i, undone = 0;
     for (i = 0; i < of->count[name]; i++) {
         unsigned serial = of->marks[name][i].serial;
-        int is_done = it->outcome[serial] != NOTHING_YET;
+        int is_done = it->fate[serial] != NOTHING_YET;
         if (!is_done && !it->waits[serial])
             rule_broken(RULE_LOST, "s%u text %u is in no outbox and had no effect", name, serial);
         if (is_done && undone > 0 && has_order() && !it->has_advanced)
@@ -209,9 +209,9 @@ static void look_at_sessions(const struct box *of, unsigned name)
     unsigned i;
     for (i = 0; i < of->count[name]; i++) {
         unsigned serial = of->marks[name][i].serial;
-        if (it->outcome[serial] == NOTHING_YET && it->waits[serial] && before == 0)
+        if (it->fate[serial] == NOTHING_YET && it->waits[serial] && before == 0)
             before = it->sealed_in[serial];
-        if (before != 0 && i >= of->own_from[name] && it->outcome[serial] == TOOK_EFFECT && it->took_in[serial] != before)
+        if (before != 0 && i >= of->own_from[name] && it->fate[serial] == TOOK_EFFECT && it->took_in[serial] != before)
             rule_broken(RULE_OVERTAKEN, "s%u text %u took effect in a session that began too early", name, serial);
     }
 }
@@ -327,7 +327,7 @@ static void look_at_stands(struct name *it, unsigned name)
     if (it->said != 0 && world.second >= CALM_FROM && world.second < CALM_UNTIL && !has(KIND_SKEWED) && !has(KIND_SILENT))
         rule_broken(RULE_UNTRUE, "s%u is said to stand, and it doesn't", name);
     if (has(KIND_SKEWED) && !has(KIND_SILENT) && !is_stream(name) && world.second == REFUSED_UNTIL && it->serials > 0
-        && it->outcome[last] == NOTHING_YET && it->put_at[last] < REFUSED_FROM && !it->was_refused)
+        && it->fate[last] == NOTHING_YET && it->put_at[last] < REFUSED_FROM && !it->was_refused)
         rule_broken(RULE_UNTRUE, "receivers refused s%u, and the outbox has never said so", name);
 }
 
@@ -380,7 +380,8 @@ static void look_at_refused(void)
 {
     const struct poison *it = &poisons.at[0];
     unsigned runs = seen.runs[it->name][it->serial];
-    if (poisons.count == 0 || it->until != UINT64_MAX || world.name[it->name].outcome[it->serial] != NOTHING_YET || runs <= TRIES)
+    if (poisons.count == 0 || it->until != UINT64_MAX || world.name[it->name].fate[it->serial] != NOTHING_YET
+        || runs <= TRIES)
         return;
     if (seen.refused == 0)
         rule_broken(RULE_UNNAMED, "s%u has a text that is refused, and no line of a receiver's log names it", it->name);

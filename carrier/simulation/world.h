@@ -25,7 +25,7 @@ struct box {
     int is_used;
 };
 
-enum outcome { NOTHING_YET, TOOK_EFFECT, PUT_ASIDE };
+enum fate { NOTHING_YET, TOOK_EFFECT, PUT_ASIDE };
 enum { SAID_TO_STAND = 1, SAID_TO_BE_STOPPED = 2 };
 
 struct name {
@@ -39,7 +39,7 @@ struct name {
     unsigned said, stands;   /* what its outbox says, and why */
     unsigned short put_at[MOST_TEXTS]; /* in which second a text was put in, */
     uint64_t took_in[MOST_TEXTS], sealed_in[MOST_TEXTS]; /* and of a stream the digest of its session's name */
-    unsigned char outcome[MOST_TEXTS], waits[MOST_TEXTS]; /* waits: it is in an outbox, as was looked last */
+    unsigned char fate[MOST_TEXTS], waits[MOST_TEXTS]; /* waits: it is in an outbox, as was looked last */
 };
 
 struct world {

@@ -1,11 +1,11 @@
 #include "postgresql.h"
 #include "log.h"
 
-int postgresql_report(PGconn *db, const char *what)
+enum answer postgresql_report(PGconn *db, const char *what)
 {
     log_fact(LEVEL_ERROR, "postgresql_fault", field_text("of", what),
              field_text("text", PQerrorMessage(db)));
-    return -1;
+    return ANSWER_FAULT;
 }
 
 int postgresql_is_done(PGconn *db, PGresult *result, const char *what)

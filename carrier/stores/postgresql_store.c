@@ -54,34 +54,34 @@ static const char *const own_sql[STORE_SQL] = {
 };
 /* end of statements */
 
-static int report(struct postgresql_store *s, const char *what)
+static enum answer report(struct postgresql_store *s, const char *what)
 {
     return postgresql_report(s->db, what);
 }
 
 /* ---- What is asked without waiting */
 
-static int expect(struct postgresql_store *s, int expected)
+static enum answer expect(struct postgresql_store *s, int expected)
 {
     if (s->asked == s->room) {
         unsigned char *more = realloc(s->expected, 2 * s->room + 64);
         if (more == NULL)
-            return -1;
+            return ANSWER_FAULT;
         s->expected = more;
         s->room = 2 * s->room + 64;
     }
     s->expected[s->asked++] = (unsigned char)expected;
-    return 0;
+    return ANSWER_DONE;
 }
 
 /* Asks for a sync: the server answers what it was asked so far, and waits no longer for the rest
  * than its idle_in_transaction_session_timeout. Without one it waits for ever. */
-static int sync(struct postgresql_store *s)
+static enum answer sync(struct postgresql_store *s)
 {
     s->unsynced = 0;
-    if (expect(s, SYNC) != 0)
-        return -1;
-    return PQpipelineSync(s->db) ? 0 : report(s, "sync");
+    if (expect(s, SYNC) != ANSWER_DONE)
+        return ANSWER_FAULT;
+    return PQpipelineSync(s->db) ? ANSWER_DONE : report(s, "sync");
 }
 
 /* The classes of what is said of values: how many rows they give, data, integrity, a trigger's change, a check option, a
@@ -108,26 +108,25 @@ static int is_refusal(struct postgresql_store *s, const PGresult *result)
     return 1;
 }
 
-/* The first answer that isn't as it has to be decides: 0, 1 if no row was moved, -1 after a
- * fault. */
-static int judge(struct postgresql_store *s, const PGresult *result, int expected)
+/* The first answer that isn't as it has to be decides. ANSWER_ELSEWHERE: no row was moved. */
+static enum answer judge(struct postgresql_store *s, const PGresult *result, int expected)
 {
     ExecStatusType status = PQresultStatus(result);
     if (status == PGRES_PIPELINE_ABORTED)
-        return -1;
+        return ANSWER_FAULT;
     if (status != PGRES_COMMAND_OK && status != PGRES_TUPLES_OK)
-        return is_refusal(s, result) ? -1 : report(s, "statement");
+        return is_refusal(s, result) ? ANSWER_FAULT : report(s, "statement");
     if (expected == COMMITTED && strcmp(PQcmdStatus((PGresult *)result), "COMMIT") != 0)
-        return -1;
-    return expected == ONE_ROW && strcmp(PQcmdTuples((PGresult *)result), "1") != 0;
+        return ANSWER_FAULT;
+    return expected == ONE_ROW && strcmp(PQcmdTuples((PGresult *)result), "1") != 0 ? ANSWER_ELSEWHERE : ANSWER_DONE;
 }
 
 /* Reads one answer, and the NULL after it, which a sync doesn't have. */
-static int read_answer(struct postgresql_store *s, int expected)
+static enum answer read_answer(struct postgresql_store *s, int expected)
 {
     PGresult *result = PQgetResult(s->db);
     int is_sync = PQresultStatus(result) == PGRES_PIPELINE_SYNC;
-    int answer = is_sync || expected == SYNC ? 0 : judge(s, result, expected);
+    enum answer answer = is_sync || expected == SYNC ? ANSWER_DONE : judge(s, result, expected);
     PQclear(result);
     if (is_sync != (expected == SYNC))
         return report(s, "answers out of step");
@@ -138,17 +137,17 @@ static int read_answer(struct postgresql_store *s, int expected)
     return report(s, "answers out of step");
 }
 
-/* Reads all answers: 0, 1 if a statement that has to move one row moved none, -1 after a fault.
- * What follows the first fault isn't judged. */
-static int read_answers(struct postgresql_store *s)
+/* Reads all answers. ANSWER_ELSEWHERE: a statement that has to move one row moved none. What follows the first fault
+ * isn't judged. */
+static enum answer read_answers(struct postgresql_store *s)
 {
     size_t i, asked;
-    int answer = sync(s);
+    enum answer answer = sync(s);
     asked = s->asked;
     s->asked = 0;
-    for (i = 0; i < asked && answer >= 0; i++) {
-        int one = read_answer(s, s->expected[i]);
-        if (answer == 0 || one < 0)
+    for (i = 0; i < asked && answer != ANSWER_FAULT; i++) {
+        enum answer one = read_answer(s, s->expected[i]);
+        if (answer == ANSWER_DONE || one == ANSWER_FAULT)
             answer = one;
     }
     return answer;
@@ -166,7 +165,7 @@ static const char *prepared(struct postgresql_store *s, const char *sql, char na
     write_whole(name, 32, "given%u", i);
     if (s->base.given[i] == sql)
         return name;
-    if (expect(s, ANY_ROWS) != 0 || !PQsendPrepare(s->db, name, sql, 0, NULL))
+    if (expect(s, ANY_ROWS) != ANSWER_DONE || !PQsendPrepare(s->db, name, sql, 0, NULL))
         return NULL;
     s->base.given[i] = sql;
     return name;
@@ -196,22 +195,23 @@ static void give(struct given *g, const struct value *values, unsigned count)
     }
 }
 
-static int run_values(struct store *base, const char *sql, const struct value *values, unsigned count, int expected)
+static enum answer run_values(struct store *base, const char *sql, const struct value *values, unsigned count,
+                              int expected)
 {
     struct postgresql_store *s = (struct postgresql_store *)base;
     struct given g;
     char name[32];
     s->refusal[0] = 0;
-    if (count > STORE_VALUES || prepared(s, sql, name) == NULL || expect(s, expected) != 0)
-        return -1;
+    if (count > STORE_VALUES || prepared(s, sql, name) == NULL || expect(s, expected) != ANSWER_DONE)
+        return ANSWER_FAULT;
     give(&g, values, count);
     if (!PQsendQueryPrepared(s->db, name, (int)count, g.texts, g.lengths, g.formats, 0))
         return report(s, sql);
     s->unsynced += g.size;
-    return s->unsynced > SYNCED ? sync(s) : 0;
+    return s->unsynced > SYNCED ? sync(s) : ANSWER_DONE;
 }
 
-static int add(struct store *base, const char *sql, const struct value *values, unsigned count)
+static enum answer add(struct store *base, const char *sql, const struct value *values, unsigned count)
 {
     return run_values(base, sql, values, count, ANY_ROWS);
 }
@@ -222,14 +222,14 @@ static const char *refusal(struct store *base)
     return why[0] != 0 ? why : NULL;
 }
 
-static int settle(struct store *base)
+static enum answer settle(struct store *base)
 {
-    return read_answers((struct postgresql_store *)base) == 0 ? 0 : -1;
+    return read_answers((struct postgresql_store *)base) == ANSWER_DONE ? ANSWER_DONE : ANSWER_FAULT;
 }
 
 /* ---- A transaction */
 
-static int begin(struct store *base)
+static enum answer begin(struct store *base)
 {
     ((struct postgresql_store *)base)->is_open = 1;
     return run_values(base, "BEGIN", NULL, 0, ANY_ROWS);
@@ -242,19 +242,19 @@ static void rollback(struct store *base)
     if (!s->is_open)
         return;
     s->is_open = 0;
-    if (read_answers(s) >= 0 && run_values(base, "ROLLBACK", NULL, 0, ANY_ROWS) == 0)
+    if (read_answers(s) != ANSWER_FAULT && run_values(base, "ROLLBACK", NULL, 0, ANY_ROWS) == ANSWER_DONE)
         (void)read_answers(s); /* after a fault the next transaction has one too */
 }
 
-static int commit(struct store *base)
+static enum answer commit(struct store *base)
 {
     struct postgresql_store *s = (struct postgresql_store *)base;
-    int answer = read_answers(s);
-    if (answer == 0)
+    enum answer answer = read_answers(s);
+    if (answer == ANSWER_DONE)
         answer = run_values(base, "COMMIT", NULL, 0, COMMITTED);
-    if (answer == 0)
+    if (answer == ANSWER_DONE)
         answer = read_answers(s);
-    if (answer > 0)
+    if (answer == ANSWER_ELSEWHERE)
         rollback(base);
     s->is_open = 0;
     return answer;
@@ -280,7 +280,7 @@ static PGresult *query(struct postgresql_store *s, const char *sql, const struct
     return NULL;
 }
 
-static int take_columns(const PGresult *result, int row, store_row *take, void *given)
+static enum answer take_columns(const PGresult *result, int row, store_row *take, void *given)
 {
     const char *columns[STORE_COLUMNS];
     int i;
@@ -289,13 +289,14 @@ static int take_columns(const PGresult *result, int row, store_row *take, void *
     return take(given, columns);
 }
 
-static int ask(struct store *base, const char *sql, const struct value *values, unsigned count,
-               store_row *take, void *given)
+static enum answer ask(struct store *base, const char *sql, const struct value *values, unsigned count,
+                       store_row *take, void *given)
 {
     PGresult *result = query((struct postgresql_store *)base, sql, values, count);
-    int row, answer = result != NULL ? 0 : -1;
-    for (row = 0; answer == 0 && row < PQntuples(result); row++)
-        answer = take_columns(result, row, take, given) == 0 ? 0 : -1;
+    int row;
+    enum answer answer = result != NULL ? ANSWER_DONE : ANSWER_FAULT;
+    for (row = 0; answer == ANSWER_DONE && row < PQntuples(result); row++)
+        answer = take_columns(result, row, take, given) == ANSWER_DONE ? ANSWER_DONE : ANSWER_FAULT;
     PQclear(result);
     return answer;
 }

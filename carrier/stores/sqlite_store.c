@@ -63,7 +63,7 @@ static const char *const own_sql[STORE_SQL] = {
 };
 /* end of statements */
 
-static int begin(struct store *base)
+static enum answer begin(struct store *base)
 {
     struct sqlite_store *s = (struct sqlite_store *)base;
     s->is_fenced = 0;
@@ -81,18 +81,18 @@ static void rollback(struct store *base)
 static int is_right(struct sqlite_store *s, const char *sql)
 {
     struct statement again = { NULL, 0 };
-    int answer = sql != NULL && prepare(s->db, &again, sql) == 0;
+    int answer = sql != NULL && prepare(s->db, &again, sql) == ANSWER_DONE;
     finalize(&again, 1);
     return answer;
 }
 
 /* What a statement with values answered; if they were refused, that is kept. */
-static int note_refusal(struct sqlite_store *s, int answer, const char *sql)
+static enum answer note_refusal(struct sqlite_store *s, enum answer answer, const char *sql)
 {
-    int why = answer != 0 ? sqlite3_errcode(s->db) : SQLITE_OK;
+    int why = answer != ANSWER_DONE ? sqlite3_errcode(s->db) : SQLITE_OK;
     char text[STORE_REFUSAL] = "";
     s->refusal[0] = 0;
-    if (answer != 0)
+    if (answer != ANSWER_DONE)
         copy_cut(text, sizeof text, sqlite3_errmsg(s->db));
     if (why == SQLITE_CONSTRAINT || why == SQLITE_MISMATCH || why == SQLITE_TOOBIG
         || (why == SQLITE_ERROR && is_right(s, sql)))
@@ -101,24 +101,24 @@ static int note_refusal(struct sqlite_store *s, int answer, const char *sql)
 }
 
 /* Inserts the rows that wait. */
-static int settle(struct store *base)
+static enum answer settle(struct store *base)
 {
     struct sqlite_store *s = (struct sqlite_store *)base;
     return note_refusal(s, insert_rows(&s->rows), s->added);
 }
 
-static int commit(struct store *base)
+static enum answer commit(struct store *base)
 {
     struct sqlite_store *s = (struct sqlite_store *)base;
-    int answer = settle(base);
+    enum answer answer = settle(base);
     if (s->is_fenced) {
         rollback(base);
-        return 1;
+        return ANSWER_ELSEWHERE;
     }
-    if (answer == 0 && run(s->db, "COMMIT") == 0)
-        return 0;
+    if (answer == ANSWER_DONE && run(s->db, "COMMIT") == ANSWER_DONE)
+        return ANSWER_DONE;
     rollback(base);
-    return -1;
+    return ANSWER_FAULT;
 }
 
 /* ---- Statements */
@@ -127,7 +127,7 @@ static int commit(struct store *base)
 static struct statement *prepared(struct sqlite_store *s, const char *sql)
 {
     unsigned i = store_place(&s->base, sql);
-    if (i < STORE_STATEMENTS && s->base.given[i] == NULL && prepare(s->db, &s->prepared[i], sql) == 0)
+    if (i < STORE_STATEMENTS && s->base.given[i] == NULL && prepare(s->db, &s->prepared[i], sql) == ANSWER_DONE)
         s->base.given[i] = sql;
     return i < STORE_STATEMENTS && s->base.given[i] != NULL ? &s->prepared[i] : NULL;
 }
@@ -146,29 +146,30 @@ static void bind(struct statement *statement, int place, const struct value *val
 static struct statement *bound(struct store *base, const char *sql, const struct value *values,
                                unsigned count)
 {
-    struct statement *statement = settle(base) == 0 ? prepared((struct sqlite_store *)base, sql) : NULL;
+    struct statement *statement = settle(base) == ANSWER_DONE ? prepared((struct sqlite_store *)base, sql) : NULL;
     unsigned i;
     for (i = 0; i < count && statement != NULL; i++)
         bind(statement, (int)i + 1, &values[i]);
     return statement;
 }
 
-static int run_values(struct store *base, const char *sql, const struct value *values, unsigned count, int changes)
+static enum answer run_values(struct store *base, const char *sql, const struct value *values, unsigned count,
+                              int changes)
 {
     struct sqlite_store *s = (struct sqlite_store *)base;
     struct statement *statement = bound(base, sql, values, count);
-    int answer = statement != NULL ? note_refusal(s, step_once(statement), sql) : -1;
-    if (answer == 0 && changes == ONE_ROW)
+    enum answer answer = statement != NULL ? note_refusal(s, step_once(statement), sql) : ANSWER_FAULT;
+    if (answer == ANSWER_DONE && changes == ONE_ROW)
         s->is_fenced |= sqlite3_changes(s->db) != 1;
     return answer;
 }
 
-static int add(struct store *base, const char *sql, const struct value *values, unsigned count)
+static enum answer add(struct store *base, const char *sql, const struct value *values, unsigned count)
 {
     struct sqlite_store *s = (struct sqlite_store *)base;
     int place = next_row(&s->rows);
     unsigned i;
-    if (s->added == NULL && prepare_rows(s->db, &s->rows, sql) == 0)
+    if (s->added == NULL && prepare_rows(s->db, &s->rows, sql) == ANSWER_DONE)
         s->added = sql;
     if (s->added != sql)
         return run_values(base, sql, values, count, ANY_ROWS);
@@ -186,26 +187,26 @@ static const char *refusal(struct store *base)
     return why[0] != 0 ? why : NULL;
 }
 
-static int take_columns(const struct statement *select, store_row *take, void *given)
+static enum answer take_columns(const struct statement *select, store_row *take, void *given)
 {
     const char *texts[STORE_COLUMNS];
     int i, count = sqlite3_column_count(select->at);
     for (i = 0; i < count; i++)
         texts[i] = (const char *)sqlite3_column_text(select->at, i);
-    return check_columns(select) == 0 ? take(given, texts) : -1;
+    return check_columns(select) == ANSWER_DONE ? take(given, texts) : ANSWER_FAULT;
 }
 
-static int ask(struct store *base, const char *sql, const struct value *values, unsigned count,
-               store_row *take, void *given)
+static enum answer ask(struct store *base, const char *sql, const struct value *values, unsigned count,
+                       store_row *take, void *given)
 {
     struct statement *select = bound(base, sql, values, count);
-    int row, answer = 0;
+    enum answer answer = ANSWER_DONE, row;
     if (select == NULL)
-        return -1;
-    while (answer == 0 && (row = step_row(select)) != 0)
-        answer = row == 1 ? take_columns(select, take, given) : -1;
+        return ANSWER_FAULT;
+    while (answer == ANSWER_DONE && (row = step_row(select)) != ANSWER_DONE)
+        answer = row == ANSWER_FOUND ? take_columns(select, take, given) : ANSWER_FAULT;
     end_rows(select);
-    return answer == 0 ? 0 : -1;
+    return answer == ANSWER_DONE ? ANSWER_DONE : ANSWER_FAULT;
 }
 
 /* ---- */
@@ -243,25 +244,26 @@ static const char *const opened_columns[][2] = {
 };
 
 /* The tables of effects, and what files of an older version don't have. */
-static int complete(sqlite3 *db)
+static enum answer complete(sqlite3 *db)
 {
-    if (begin_writing(db) != 0)
-        return -1;
-    if (add_columns(db, columns, sizeof columns / sizeof *columns) == 0
-        && run(db, effect_tables_sqlite) == 0
-        && add_columns(db, effect_columns, effect_column_count) == 0 && run(db, kept_tables) == 0
-        && add_columns(db, opened_columns, 1) == 0 && run(db, "COMMIT") == 0)
-        return 0;
+    if (begin_writing(db) != ANSWER_DONE)
+        return ANSWER_FAULT;
+    if (add_columns(db, columns, sizeof columns / sizeof *columns) == ANSWER_DONE
+        && run(db, effect_tables_sqlite) == ANSWER_DONE
+        && add_columns(db, effect_columns, effect_column_count) == ANSWER_DONE && run(db, kept_tables) == ANSWER_DONE
+        && add_columns(db, opened_columns, 1) == ANSWER_DONE && run(db, "COMMIT") == ANSWER_DONE)
+        return ANSWER_DONE;
     roll_back(db);
-    return -1;
+    return ANSWER_FAULT;
 }
 
-static int open_it(struct sqlite_store *s, const char *path, unsigned shard)
+static enum answer open_it(struct sqlite_store *s, const char *path, unsigned shard)
 {
     if (path_of_shard(path, shard, s->path, sizeof s->path) == NULL)
-        return -1;
+        return ANSWER_FAULT;
     s->db = open_database(s->path, tables);
-    return s->db != NULL && find_file(s->path, &s->device, &s->inode) == 0 && complete(s->db) == 0 ? 0 : -1;
+    return s->db != NULL && find_file(s->path, &s->device, &s->inode) == 0 && complete(s->db) == ANSWER_DONE
+           ? ANSWER_DONE : ANSWER_FAULT;
 }
 
 static int is_there(struct store *base)
@@ -282,7 +284,7 @@ struct store *sqlite_store_open(const char *path, unsigned shard)
         return NULL;
     s->base = (struct store){ own_sql, { NULL }, NULL, begin, run_values, add, refusal, settle, commit, rollback, ask,
                               is_there, close_it };
-    if (open_it(s, path, shard) == 0)
+    if (open_it(s, path, shard) == ANSWER_DONE)
         return &s->base;
     close_it(&s->base);
     return NULL;

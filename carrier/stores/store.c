@@ -63,13 +63,13 @@ static uint64_t number_of(const char *column)
     return strtoull(column, NULL, 10);
 }
 
-static int read_reached(void *given, const char *const *row)
+static enum answer read_reached(void *given, const char *const *row)
 {
     *(struct reached *)given = (struct reached){ number_of(row[0]), number_of(row[1]) };
-    return 0;
+    return ANSWER_DONE;
 }
 
-int store_reached(struct store *store, unsigned shard, struct reached *reached)
+enum answer store_reached(struct store *store, unsigned shard, struct reached *reached)
 {
     const struct value value = number_value(shard);
     *reached = (struct reached){ 0, 0 };
@@ -78,7 +78,7 @@ int store_reached(struct store *store, unsigned shard, struct reached *reached)
 
 struct taking { store_take *take; void *given; };
 
-static int read_session(void *given, const char *const *row)
+static enum answer read_session(void *given, const char *const *row)
 {
     const struct taking *to = given;
     struct demand demand = { .next = number_of(row[0]), .closed = (uint32_t)number_of(row[1]),
@@ -100,19 +100,19 @@ static char *array_of(const char *const *names, size_t count)
     return array;
 }
 
-int store_sessions(struct store *store, const char *const *names, size_t count, store_take *take,
-                   void *given)
+enum answer store_sessions(struct store *store, const char *const *names, size_t count, store_take *take,
+                           void *given)
 {
     struct taking to = { take, given };
     char *array = array_of(names, count);
     struct value value;
-    int answer = -1;
+    enum answer answer = ANSWER_FAULT;
     if (array != NULL && count > 0) {
         value = text_value(array);
         answer = store->ask(store, store->sql[SELECT_SESSIONS], &value, 1, read_session, &to);
     }
     free(array);
-    return count > 0 ? answer : 0;
+    return count > 0 ? answer : ANSWER_DONE;
 }
 
 /* ---- A transaction */
@@ -123,20 +123,20 @@ static int is_other(const struct reached *from, const struct reached *to)
     return from->incarnation != 0 && from->incarnation != to->incarnation;
 }
 
-int store_move(struct store *store, unsigned shard, const struct reached *from, const struct reached *to)
+enum answer store_move(struct store *store, unsigned shard, const struct reached *from, const struct reached *to)
 {
     const struct value values[] = { number_value(shard), number_value(from->incarnation), number_value(from->offset),
                                     number_value(to->incarnation), number_value(to->offset) };
     return store->run(store, store->sql[MOVE_SHARD], values, 5, ONE_ROW);
 }
 
-int store_begin(struct store *store, unsigned shard, const struct reached *from,
-                const struct reached *to)
+enum answer store_begin(struct store *store, unsigned shard, const struct reached *from,
+                        const struct reached *to)
 {
     const struct value value = number_value(shard);
-    if (store->begin(store) != 0 || store_move(store, shard, from, to) != 0)
-        return -1;
-    return is_other(from, to) ? store->run(store, store->sql[RESET_SESSIONS], &value, 1, ANY_ROWS) : 0;
+    if (store->begin(store) != ANSWER_DONE || store_move(store, shard, from, to) != ANSWER_DONE)
+        return ANSWER_FAULT;
+    return is_other(from, to) ? store->run(store, store->sql[RESET_SESSIONS], &value, 1, ANY_ROWS) : ANSWER_DONE;
 }
 
 enum { ROW = 5 }; /* values of a session's row, but for its name and its history */
@@ -150,8 +150,8 @@ static void write_row(struct value values[ROW], const struct demand *it)
     values[4] = number_value((uint64_t)(int64_t)it->shard);
 }
 
-int store_advance(struct store *store, const char *session, const struct demand *from,
-                  const struct demand *to)
+enum answer store_advance(struct store *store, const char *session, const struct demand *from,
+                          const struct demand *to)
 {
     struct value values[2 * ROW + 2] = { text_value(session) };
     char history[HISTORY_TEXT];
@@ -178,12 +178,12 @@ unsigned store_place(const struct store *store, const char *sql)
     return i;
 }
 
-int store_run(struct store *store, const char *sql, const struct value *values, unsigned count)
+enum answer store_run(struct store *store, const char *sql, const struct value *values, unsigned count)
 {
     return store->run(store, sql, values, count, ANY_ROWS);
 }
 
-int store_add(struct store *store, const char *sql, const struct value *values, unsigned count)
+enum answer store_add(struct store *store, const char *sql, const struct value *values, unsigned count)
 {
     return store->add(store, sql, values, count);
 }

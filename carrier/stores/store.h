@@ -11,6 +11,7 @@
 #define STORE_H
 
 #include "history.h"
+#include "answer.h"
 
 #include <krbrelay.h>
 
@@ -53,27 +54,27 @@ struct store *store_open(const char *where, unsigned shard);
 /* Which file the store of a shard is: 0 and where it lies, or -1, as where it is none. */
 int store_file(const char *where, unsigned shard, uint64_t *device, uint64_t *inode);
 
-/* How far the shard was read. Answers 0, or -1 after a fault, as those below. */
-int store_reached(struct store *store, unsigned shard, struct reached *reached);
+/* How far the shard was read. */
+enum answer store_reached(struct store *store, unsigned shard, struct reached *reached);
 
 /* Passes each of these sessions that is stored to a function. What that doesn't answer 0 ends it,
  * with -1. Their names are of the form that sessions.h says. */
-typedef int store_take(void *given, const char *session, const struct demand *demand);
-int store_sessions(struct store *store, const char *const *names, size_t count, store_take *take,
-                   void *given);
+typedef enum answer store_take(void *given, const char *session, const struct demand *demand);
+enum answer store_sessions(struct store *store, const char *const *names, size_t count, store_take *take,
+                           void *given);
 
 /* Begins a transaction that moves the shard. If that is from one list to another, the places of all
  * its sessions become 0, and none of them misses anything. */
-int store_begin(struct store *store, unsigned shard, const struct reached *from,
-                const struct reached *to);
+enum answer store_begin(struct store *store, unsigned shard, const struct reached *from,
+                        const struct reached *to);
 
 /* Within it: moves the shard from there to another offset of the same list. */
-int store_move(struct store *store, unsigned shard, const struct reached *from, const struct reached *to);
+enum answer store_move(struct store *store, unsigned shard, const struct reached *from, const struct reached *to);
 
 /* Moves a session from what is stored, or from nothing, to this. The store notes since when it has
  * missed something at its number. */
-int store_advance(struct store *store, const char *session, const struct demand *from,
-                  const struct demand *to);
+enum answer store_advance(struct store *store, const char *session, const struct demand *from,
+                          const struct demand *to);
 
 /* ---- For the effect of a text (effect.c): any statement that gives no rows, within the open
  * transaction. $1, $2 .. stand for its values, in this order. The statement's bytes stay as they
@@ -84,11 +85,11 @@ struct value { enum value_kind kind; uint64_t number; const void *at; size_t len
 
 enum { STORE_VALUES = 12 }; /* the most of one statement */
 
-int store_run(struct store *store, const char *sql, const struct value *values, unsigned count);
+enum answer store_run(struct store *store, const char *sql, const struct value *values, unsigned count);
 
 /* The same of a row, "INSERT INTO .. VALUES ($1, ..)": it may be inserted later, but before another
  * statement is run. Values that are texts stay as they are until then. */
-int store_add(struct store *store, const char *sql, const struct value *values, unsigned count);
+enum answer store_add(struct store *store, const char *sql, const struct value *values, unsigned count);
 
 /* Values of a statement. */
 static inline struct value number_value(uint64_t number)
@@ -116,36 +117,36 @@ enum { STORE_REFUSAL = 256, STORE_COLUMNS = 16 }; /* the room for a refusal, and
 enum { STORE_STATEMENTS = 32 };                   /* the most that are given to one */
 
 /* A row of a question, whose columns are texts; what doesn't answer 0 ends it, with -1. */
-typedef int store_row(void *given, const char *const *columns);
+typedef enum answer store_row(void *given, const char *const *columns);
 
 struct store {
     const char *const *sql;              /* its own statements, */
     const char *given[STORE_STATEMENTS]; /* and all that were given to it and are prepared */
     const char *checks_at_once;          /* has constraints be checked with each statement of a transaction; or NULL */
 
-    int (*begin)(struct store *);
+    enum answer (*begin)(struct store *);
 
     /* As store_run and store_add. */
-    int (*run)(struct store *, const char *sql, const struct value *values, unsigned count, int changes);
-    int (*add)(struct store *, const char *sql, const struct value *values, unsigned count);
+    enum answer (*run)(struct store *, const char *sql, const struct value *values, unsigned count, int changes);
+    enum answer (*add)(struct store *, const char *sql, const struct value *values, unsigned count);
 
     /* Why the values of the statement that failed last were refused: a constraint that they violate, what a trigger
      * raises, or a value that a column can't have. NULL if that isn't why it failed. */
     const char *(*refusal)(struct store *);
 
-    /* Waits until what was run and added has taken effect; outside of a transaction that stays. 0, or -1 after a
-     * fault. */
-    int (*settle)(struct store *);
+    /* Waits until what was run and added has taken effect; outside of a transaction that stays. */
+    enum answer (*settle)(struct store *);
 
-    /* Ends the transaction: 0 if all of it took effect, 1 if something stood elsewhere, and -1 after a fault.
-     * After 1 nothing took effect; after -1 it isn't known whether it did: all is to be read again. */
-    int (*commit)(struct store *);
+    /* Ends the transaction. After ANSWER_ELSEWHERE nothing took effect; after a fault it isn't known whether it did: all
+     * is to be read again. */
+    enum answer (*commit)(struct store *);
 
     /* Gives it up. */
     void (*rollback)(struct store *);
 
     /* Passes each row to a function, outside of a transaction. */
-    int (*ask)(struct store *, const char *sql, const struct value *values, unsigned count, store_row *take, void *given);
+    enum answer (*ask)(struct store *, const char *sql, const struct value *values, unsigned count, store_row *take,
+                       void *given);
 
     /* Whether it is still what was opened: a file that was replaced isn't, which is reported. */
     int (*is_there)(struct store *);

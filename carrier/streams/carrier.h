@@ -13,11 +13,13 @@
  * an incarnation, a number that no other one of its shard has, so that who stores an offset can
  * store with it of which list it is.
  *
- * A carrier belongs to one thread. Its calls answer CARRIER_FAULT after a fault that may pass,
+ * A carrier belongs to one thread. Its calls answer ANSWER_FAULT after a fault that may pass,
  * which they report on standard error; the caller tries again.
  * */
 #ifndef CARRIER_H
 #define CARRIER_H
+
+#include "answer.h"
 
 #include <stddef.h>
 #include <stdint.h>
@@ -29,12 +31,6 @@
 #define CARRIER_SHARDS 4096
 
 struct carrier;
-
-enum {
-    CARRIER_FAULT = -1,
-    CARRIER_CHANGED = -2, /* the shard is another list than it was */
-    CARRIER_REFUSED = -3  /* this frame isn't taken, however often it is tried */
-};
 
 /* A frame as it stands in a shard. */
 struct carried {
@@ -69,40 +65,40 @@ const char *carrier_file(const struct carrier_options *options);
 /* What a carrier does; the first member of each kind's own struct. */
 struct carrier {
     /* The incarnation of a shard, 0 if there is none yet, and its last offset, about. */
-    int (*incarnation)(struct carrier *, unsigned shard, uint64_t *incarnation, uint64_t *end);
+    enum answer (*incarnation)(struct carrier *, unsigned shard, uint64_t *incarnation, uint64_t *end);
 
     /* The incarnation for one who publishes: the shard is made unless it exists. As long as the carrier has no
      * reason to ask again, that costs nothing. */
-    int (*make)(struct carrier *, unsigned shard, uint64_t *incarnation);
+    enum answer (*make)(struct carrier *, unsigned shard, uint64_t *incarnation);
 
     /* Passes a frame to the carrier. It is stored when it is confirmed, with the caller's tag and
      * number. If it isn't confirmed within some seconds, it may be stored or not. A confirmation counts
      * only up to the last offset that the shard has, whoever wrote it. */
-    int (*publish)(struct carrier *, unsigned shard, const char *session, uint32_t tag, uint64_t number,
+    enum answer (*publish)(struct carrier *, unsigned shard, const char *session, uint32_t tag, uint64_t number,
                    const uint8_t *frame, size_t len);
 
-    /* Takes confirmations, up to room of them, and answers how many. */
-    int (*confirmed)(struct carrier *, struct confirmed *list, size_t room);
+    /* Takes confirmations, up to room of them; *count says how many. */
+    enum answer (*confirmed)(struct carrier *, struct confirmed *list, size_t room, size_t *count);
 
     /* The next fetch begins after this offset of the shard, of the list that `incarnation` gave last. */
     void (*seek)(struct carrier *, unsigned shard, uint64_t offset);
 
-    /* Takes the next frames, up to room of them, and answers how many. CARRIER_CHANGED: it is another list, or ends
-     * before: ask for the incarnation, and seek. */
-    int (*fetch)(struct carrier *, struct carried *list, size_t room);
+    /* Takes the next frames, up to room of them; *count says how many, also 0. ANSWER_CHANGED: it is another list, or
+     * ends before: ask for the incarnation, and seek. */
+    enum answer (*fetch)(struct carrier *, struct carried *list, size_t room, size_t *count);
 
     /* How many frames stand after the last that was fetched: about, and as far as that is known. */
-    int (*behind)(struct carrier *, uint64_t *frames);
+    enum answer (*behind)(struct carrier *, uint64_t *frames);
 
     /* ---- Receipts (receipts.h), of which the last one of each session is kept, beside the shards. Each
      * may be lost, or given again. */
 
     /* Takes receipts of a shard's sessions: offsets don't matter. */
-    int (*acknowledge)(struct carrier *, unsigned shard, const struct carried *list, size_t count);
+    enum answer (*acknowledge)(struct carrier *, unsigned shard, const struct carried *list, size_t count);
 
     /* Passes those that came since the last call to a function; the first call that answers 0 has passed the last one
      * of each session, and may wait for that. */
-    int (*receipts)(struct carrier *, carrier_receipt *take, void *given);
+    enum answer (*receipts)(struct carrier *, carrier_receipt *take, void *given);
 
     /* A session has ended, and its receipt need not be kept. It may be kept all the same, where the carrier is away or
      * doesn't allow it. */

@@ -19,11 +19,11 @@ enum {
     WHERE = 2048     /* the most bytes of their addresses */
 };
 
-int nats_report(const char *what, natsStatus status)
+enum answer nats_report(const char *what, natsStatus status)
 {
     log_fact(LEVEL_WARNING, "nats_fault", field_text("of", what),
              field_text("fault", natsStatus_GetText(status)), field_text("text", "tried again"));
-    return CARRIER_FAULT;
+    return ANSWER_FAULT;
 }
 
 static int is_away(struct carrier *base)

@@ -65,8 +65,8 @@ struct nats_carrier {
                                          * milliseconds */
 };
 
-/* Logs a fault of a call; CARRIER_FAULT. */
-int nats_report(const char *what, natsStatus status);
+/* Logs a fault of a call; ANSWER_FAULT. */
+enum answer nats_report(const char *what, natsStatus status);
 
 /* Subscribes to what is said to this carrier under a word of its inbox, such as "*.frames". */
 natsStatus nats_hear(struct nats_carrier *c, const char *word, natsSubscription **subscription);
@@ -146,30 +146,30 @@ void nats_read_description(natsMsg *message, char text[NATS_TEXT]);
 /* Asks for a stream from time to time, which is made if there is none. One message is read, if there is one: whether
  * there was, and how many frames it confirms. */
 void nats_look_for(struct nats_carrier *c, unsigned stream);
-int nats_read_one(struct nats_carrier *c, struct confirmed *list, int *count);
+int nats_read_one(struct nats_carrier *c, struct confirmed *list, size_t *count);
 
-int nats_make(struct carrier *base, unsigned shard, uint64_t *incarnation);
-int nats_publish(struct carrier *base, unsigned shard, const char *session, uint32_t tag,
-                 uint64_t number, const uint8_t *frame, size_t len);
-int nats_confirmed(struct carrier *base, struct confirmed *list, size_t room);
+enum answer nats_make(struct carrier *base, unsigned shard, uint64_t *incarnation);
+enum answer nats_publish(struct carrier *base, unsigned shard, const char *session, uint32_t tag,
+                         uint64_t number, const uint8_t *frame, size_t len);
+enum answer nats_confirmed(struct carrier *base, struct confirmed *list, size_t room, size_t *count);
 
 /* ---- nats_reader.c */
 
-int nats_incarnation(struct carrier *base, unsigned shard, uint64_t *incarnation, uint64_t *end);
+enum answer nats_incarnation(struct carrier *base, unsigned shard, uint64_t *incarnation, uint64_t *end);
 void nats_seek(struct carrier *base, unsigned shard, uint64_t offset);
-int nats_fetch(struct carrier *base, struct carried *list, size_t room);
+enum answer nats_fetch(struct carrier *base, struct carried *list, size_t room, size_t *count);
 uint64_t nats_due(struct carrier *base);
-int nats_behind(struct carrier *base, uint64_t *frames);
+enum answer nats_behind(struct carrier *base, uint64_t *frames);
 void nats_stop_reading(struct nats_carrier *c);
 
 /* ---- nats_receipts.c */
 
-int nats_acknowledge(struct carrier *base, unsigned shard, const struct carried *list,
-                     size_t count);
+enum answer nats_acknowledge(struct carrier *base, unsigned shard, const struct carried *list,
+                             size_t count);
 void nats_look_for_receipts(struct nats_carrier *c); /* a receiver's: waits for nothing */
 void nats_check_replicas(struct nats_carrier *c, const struct nats_stream *it);
 natsStatus nats_hear_receipts(struct nats_carrier *c);
-int nats_receipts(struct carrier *base, carrier_receipt *take, void *given);
+enum answer nats_receipts(struct carrier *base, carrier_receipt *take, void *given);
 void nats_forget(struct carrier *base, unsigned shard, const char *session);
 
 #endif

@@ -64,12 +64,12 @@ void nats_look_for(struct nats_carrier *c, unsigned shard)
     ask(c, shard, "STREAM.INFO", "");
 }
 
-int nats_make(struct carrier *base, unsigned shard, uint64_t *incarnation)
+enum answer nats_make(struct carrier *base, unsigned shard, uint64_t *incarnation)
 {
     struct nats_carrier *c = (struct nats_carrier *)base;
     nats_look_for(c, shard);
     *incarnation = c->made[shard].incarnation;
-    return c->made[shard].is_known ? 0 : CARRIER_FAULT;
+    return c->made[shard].is_known ? ANSWER_DONE : ANSWER_FAULT;
 }
 
 /* Why the servers have no such stream. */
@@ -115,8 +115,8 @@ static void read_stream(struct nats_carrier *c, natsMsg *message, unsigned shard
 
 /* ---- Frames */
 
-int nats_publish(struct carrier *base, unsigned shard, const char *session, uint32_t tag,
-                 uint64_t number, const uint8_t *frame, size_t len)
+enum answer nats_publish(struct carrier *base, unsigned shard, const char *session, uint32_t tag,
+                         uint64_t number, const uint8_t *frame, size_t len)
 {
     struct nats_carrier *c = (struct nats_carrier *)base;
     char subject[64], reply[NATS_SUBJECT];
@@ -128,8 +128,8 @@ int nats_publish(struct carrier *base, unsigned shard, const char *session, uint
     status = natsConnection_PublishRequest(c->connection, subject, reply, frame, (int)len);
     nats_let_leave(c);
     if (status == NATS_OK)
-        return 0;
-    return status == NATS_MAX_PAYLOAD ? CARRIER_REFUSED : nats_report("publish", status);
+        return ANSWER_DONE;
+    return status == NATS_MAX_PAYLOAD ? ANSWER_REFUSED : nats_report("publish", status);
 }
 
 /* ---- Confirmations */
@@ -183,24 +183,25 @@ static void doubt_all(struct nats_carrier *c)
             krbrelay_pause_begin(&c->made[shard].pause, 0, now);
 }
 
-int nats_read_one(struct nats_carrier *c, struct confirmed *list, int *count)
+int nats_read_one(struct nats_carrier *c, struct confirmed *list, size_t *count)
 {
     natsMsg *message = NULL;
     natsStatus status = nats_next(c, c->answers, &message);
     if (status == NATS_OK)
-        *count += read_message(c, message, &list[*count]);
+        *count += read_message(c, message, &list[*count]) != 0;
     nats_drop(c, message);
     if (status == NATS_NO_RESPONDERS)
         doubt_all(c);
     return status == NATS_OK || status == NATS_NO_RESPONDERS;
 }
 
-int nats_confirmed(struct carrier *base, struct confirmed *list, size_t room)
+enum answer nats_confirmed(struct carrier *base, struct confirmed *list, size_t room, size_t *count)
 {
     struct nats_carrier *c = (struct nats_carrier *)base;
-    int count = 0, has_more = 1;
+    int has_more = 1;
+    *count = 0;
     nats_look_around(c);
-    while (has_more && (size_t)count < room)
-        has_more = nats_read_one(c, list, &count);
-    return count;
+    while (has_more && *count < room)
+        has_more = nats_read_one(c, list, count);
+    return ANSWER_DONE;
 }

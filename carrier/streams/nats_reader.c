@@ -52,11 +52,11 @@ static natsStatus ask_shard(struct nats_carrier *c, unsigned shard, struct nats_
     if (status == NATS_OK)
         return nats_judge_stream(c, name, it);
     if (status != NATS_NOT_FOUND)
-        (void)nats_report("a stream", status); /* CARRIER_FAULT, as for each fault */
+        (void)nats_report("a stream", status); /* ANSWER_FAULT, as for each fault */
     return status;
 }
 
-int nats_incarnation(struct carrier *base, unsigned shard, uint64_t *incarnation, uint64_t *end)
+enum answer nats_incarnation(struct carrier *base, unsigned shard, uint64_t *incarnation, uint64_t *end)
 {
     struct nats_carrier *c = (struct nats_carrier *)base;
     struct nats_stream it;
@@ -68,11 +68,11 @@ int nats_incarnation(struct carrier *base, unsigned shard, uint64_t *incarnation
     if (c->incarnation != *incarnation)
         c->known = 0;
     c->incarnation = *incarnation;
-    return status == NATS_OK || status == NATS_NOT_FOUND ? 0 : CARRIER_FAULT;
+    return status == NATS_OK || status == NATS_NOT_FOUND ? ANSWER_DONE : ANSWER_FAULT;
 }
 
 /* Whether the stream is there, is the one of which offsets are, and doesn't end before. */
-static int check_stream(struct nats_carrier *c)
+static enum answer check_stream(struct nats_carrier *c)
 {
     struct nats_stream it;
     natsStatus status = ask_shard(c, c->shard, &it);
@@ -80,8 +80,9 @@ static int check_stream(struct nats_carrier *c)
     write_whole(subject, sizeof subject, "krb.%u.*", c->shard);
     c->has_others = strcmp(it.subject, subject) != 0;
     if (status == NATS_OK)
-        return (c->incarnation != 0 && it.created != c->incarnation) || it.last < c->after ? CARRIER_CHANGED : 0;
-    return status == NATS_NOT_FOUND && c->incarnation != 0 ? CARRIER_CHANGED : CARRIER_FAULT;
+        return (c->incarnation != 0 && it.created != c->incarnation) || it.last < c->after
+               ? ANSWER_CHANGED : ANSWER_DONE;
+    return status == NATS_NOT_FOUND && c->incarnation != 0 ? ANSWER_CHANGED : ANSWER_FAULT;
 }
 
 /* A consumer of the stream that delivers all after the place where the reader stands. It has a filter only where the
@@ -99,12 +100,12 @@ static natsStatus make_consumer(struct nats_carrier *c, const char *name)
     return status == NATS_OK ? natsSubscription_SetPendingLimits(c->reader, -1, PENDING) : status;
 }
 
-static int begin_reading(struct nats_carrier *c)
+static enum answer begin_reading(struct nats_carrier *c)
 {
     char name[NATS_NAME];
     natsStatus status;
-    int answer = check_stream(c);
-    if (answer != 0)
+    enum answer answer = check_stream(c);
+    if (answer != ANSWER_DONE)
         return answer;
     nats_name_stream(c->shard, name);
     status = make_consumer(c, name);
@@ -115,7 +116,7 @@ static int begin_reading(struct nats_carrier *c)
     c->delivered = 0;
     c->heard = milliseconds();
     nats_look_for_receipts(c);
-    return 0;
+    return ANSWER_DONE;
 }
 
 /* Retention, an operator, or a broker that lost them: sessions of theirs stand then. */
@@ -187,26 +188,28 @@ static natsStatus fetch_one(struct nats_carrier *c, struct carried *it, int *has
     return NATS_OK;
 }
 
-int nats_fetch(struct carrier *base, struct carried *list, size_t room)
+enum answer nats_fetch(struct carrier *base, struct carried *list, size_t room, size_t *count)
 {
     struct nats_carrier *c = (struct nats_carrier *)base;
     natsStatus status = NATS_OK;
-    int count = 0, answer, has_frame;
+    enum answer answer = ANSWER_DONE;
+    int has_frame;
+    *count = 0;
     let_go(c);
     nats_look_around(c);
     if (c->made[NATS_RECEIPTS].question != 0)
         nats_look_for_receipts(c);
-    if (c->reader == NULL && (answer = begin_reading(c)) != 0)
-        return answer;
-    while ((size_t)count < room && count < NATS_HELD && status == NATS_OK) {
-        status = fetch_one(c, &list[count], &has_frame);
-        count += has_frame;
+    if (c->reader == NULL)
+        answer = begin_reading(c);
+    while (answer == ANSWER_DONE && *count < room && *count < NATS_HELD && status == NATS_OK) {
+        status = fetch_one(c, &list[*count], &has_frame);
+        *count += has_frame != 0;
     }
-    if (status == NATS_OK || status == NATS_TIMEOUT)
-        return count;
+    if (answer != ANSWER_DONE || status == NATS_OK || status == NATS_TIMEOUT)
+        return answer;
     nats_leave(&c->reader); /* what was fetched stays held */
     answer = nats_report("a reader begins again after what it had", status);
-    return count > 0 ? count : answer;
+    return *count > 0 ? ANSWER_DONE : answer;
 }
 
 /* Whether the consumer has said anything is looked at when it would be too long ago. */
@@ -216,12 +219,12 @@ uint64_t nats_due(struct carrier *base)
     return c->reader != NULL ? c->heard + SILENT + 1 : 0;
 }
 
-int nats_behind(struct carrier *base, uint64_t *frames)
+enum answer nats_behind(struct carrier *base, uint64_t *frames)
 {
     struct nats_carrier *c = (struct nats_carrier *)base;
     int here = 0, bytes = 0; /* what has come, and wasn't fetched */
     if (c->reader == NULL || natsSubscription_GetPending(c->reader, &here, &bytes) != NATS_OK)
-        return CARRIER_FAULT;
+        return ANSWER_FAULT;
     *frames = c->pending > (uint64_t)here ? c->pending : (uint64_t)here;
-    return 0;
+    return ANSWER_DONE;
 }

@@ -28,7 +28,7 @@ void nats_check_replicas(struct nats_carrier *c, const struct nats_stream *it)
 void nats_look_for_receipts(struct nats_carrier *c)
 {
     struct confirmed none; /* a receiver publishes no frames */
-    int count = 0;
+    size_t count = 0;
     if (c->first.length == 0)
         krbrelay_pause_begin(&c->first, FIRST, milliseconds());
     nats_look_for(c, NATS_RECEIPTS);
@@ -36,8 +36,8 @@ void nats_look_for_receipts(struct nats_carrier *c)
         count = 0;
 }
 
-int nats_acknowledge(struct carrier *base, unsigned shard, const struct carried *list,
-                     size_t count)
+enum answer nats_acknowledge(struct carrier *base, unsigned shard, const struct carried *list,
+                             size_t count)
 {
     struct nats_carrier *c = (struct nats_carrier *)base;
     char subject[64];
@@ -45,14 +45,14 @@ int nats_acknowledge(struct carrier *base, unsigned shard, const struct carried 
     size_t i;
     nats_look_for_receipts(c);
     if (!c->made[NATS_RECEIPTS].is_known && !krbrelay_pause_is_over(&c->first, milliseconds()))
-        return CARRIER_FAULT; /* they are sealed again in a moment, and kept then */
+        return ANSWER_FAULT; /* they are sealed again in a moment, and kept then */
     for (i = 0; i < count && status == NATS_OK; i++) {
         write_whole(subject, sizeof subject, "krbr.%u.%s", shard, list[i].session);
         status = natsConnection_Publish(c->connection, subject, list[i].frame, (int)list[i].len);
         nats_let_leave(c);
     }
     (void)nats_turn(c); /* they leave; what it has read waits for who asks for it */
-    return status == NATS_OK ? 0 : nats_report("a receipt", status);
+    return status == NATS_OK ? ANSWER_DONE : nats_report("a receipt", status);
 }
 
 /* ---- A sender */
@@ -110,7 +110,7 @@ static natsStatus begin_to_hear(struct nats_carrier *c, carrier_receipt *take, v
     return status;
 }
 
-int nats_receipts(struct carrier *base, carrier_receipt *take, void *given)
+enum answer nats_receipts(struct carrier *base, carrier_receipt *take, void *given)
 {
     struct nats_carrier *c = (struct nats_carrier *)base;
     natsStatus status = c->has_read_kept ? NATS_OK : begin_to_hear(c, take, given);
@@ -123,7 +123,7 @@ int nats_receipts(struct carrier *base, carrier_receipt *take, void *given)
             give(message, take, given);
         nats_drop(c, message);
     }
-    return status == NATS_TIMEOUT ? 0 : nats_report("receipts", status);
+    return status == NATS_TIMEOUT ? ANSWER_DONE : nats_report("receipts", status);
 }
 
 /* Nothing waits for an answer: what is left is read by senders that begin, and does nothing. */
@@ -135,5 +135,5 @@ void nats_forget(struct carrier *base, unsigned shard, const char *session)
     write_whole(text, sizeof text, "{\"filter\":\"krbr.%u.%s\"}", shard, session);
     status = natsConnection_PublishString(c->connection, "$JS.API.STREAM.PURGE." NATS_RECEIPTS_NAME, text);
     if (status != NATS_OK)
-        (void)nats_report("a receipt", status); /* CARRIER_FAULT, as for each fault */
+        (void)nats_report("a receipt", status); /* ANSWER_FAULT, as for each fault */
 }

@@ -59,48 +59,48 @@ static const char *const sql[STATEMENTS] = {
 
 static const char insert[] = "INSERT INTO carried (shard, session, frame) VALUES (?, ?, ?)";
 
-static int incarnation(struct carrier *base, unsigned shard, uint64_t *incarnation, uint64_t *end)
+static enum answer incarnation(struct carrier *base, unsigned shard, uint64_t *incarnation, uint64_t *end)
 {
     struct sqlite_carrier *c = (struct sqlite_carrier *)base;
     struct statement *select = &c->statements[SELECT_END];
     int has_row;
     bind_number(select, 1, shard);
-    has_row = step_row(select) == 1;
+    has_row = step_row(select) == ANSWER_FOUND;
     *end = has_row ? (uint64_t)sqlite3_column_int64(select->at, 0) : 0;
     end_rows(select);
     *incarnation = c->incarnation;
-    return has_row ? 0 : CARRIER_FAULT;
+    return has_row ? ANSWER_DONE : ANSWER_FAULT;
 }
 
 /* The file is there, so each of its shards is. */
-static int make(struct carrier *base, unsigned shard, uint64_t *incarnation)
+static enum answer make(struct carrier *base, unsigned shard, uint64_t *incarnation)
 {
     (void)shard;
     *incarnation = ((struct sqlite_carrier *)base)->incarnation;
-    return 0;
+    return ANSWER_DONE;
 }
 
 /* ---- Publishing */
 
 /* Begins a transaction, unless one is open. */
-static int begin_publishing(struct sqlite_carrier *c)
+static enum answer begin_publishing(struct sqlite_carrier *c)
 {
     if (c->is_committed && c->confirmed == c->stored) {
         c->stored = c->confirmed = 0;
         c->is_committed = 0;
     }
     if (c->is_committed || c->stored == PENDING)
-        return -1; /* first the confirmations are to be taken */
-    return c->stored == 0 ? begin_writing(c->db) : 0;
+        return ANSWER_FAULT; /* first the confirmations are to be taken */
+    return c->stored == 0 ? begin_writing(c->db) : ANSWER_DONE;
 }
 
 /* Gives up what was published since the last confirmations. */
-static int give_up(struct sqlite_carrier *c)
+static enum answer give_up(struct sqlite_carrier *c)
 {
     forget_rows(&c->added);
     roll_back(c->db);
     c->stored = 0;
-    return -1;
+    return ANSWER_FAULT;
 }
 
 /* The frames that were inserted last have offsets one after the other. */
@@ -111,41 +111,41 @@ static void note_offsets(struct sqlite_carrier *c, int count)
         c->pending[c->stored - (size_t)count].offset = last + 1 - (uint64_t)count;
 }
 
-static int publish(struct carrier *base, unsigned shard, const char *session, uint32_t tag,
-                   uint64_t number, const uint8_t *frame, size_t len)
+static enum answer publish(struct carrier *base, unsigned shard, const char *session, uint32_t tag,
+                           uint64_t number, const uint8_t *frame, size_t len)
 {
     struct sqlite_carrier *c = (struct sqlite_carrier *)base;
     struct rows *rows = &c->added;
     int at = next_row(rows), count = rows->count + 1;
-    if (begin_publishing(c) != 0)
-        return -1;
+    if (begin_publishing(c) != ANSWER_DONE)
+        return ANSWER_FAULT;
     bind_number(&rows->all, at + 1, shard);
     bind_name(rows, at + 2, session);
     bind_copy(rows, at + 3, frame, len);
     c->pending[c->stored++] = (struct confirmed){ tag, number, 0 };
-    if (add_row(rows) != 0)
+    if (add_row(rows) != ANSWER_DONE)
         return give_up(c);
     if (rows->count == 0)
         note_offsets(c, count);
-    return 0;
+    return ANSWER_DONE;
 }
 
-static int confirmed(struct carrier *base, struct confirmed *list, size_t room)
+static enum answer confirmed(struct carrier *base, struct confirmed *list, size_t room, size_t *count)
 {
     struct sqlite_carrier *c = (struct sqlite_carrier *)base;
-    int count = 0;
+    *count = 0;
     if (!c->is_committed && c->stored > 0) {
         int last = c->added.count;
-        if (insert_rows(&c->added) != 0)
+        if (insert_rows(&c->added) != ANSWER_DONE)
             return give_up(c);
         note_offsets(c, last);
-        if (run(c->db, "COMMIT") != 0)
+        if (run(c->db, "COMMIT") != ANSWER_DONE)
             return give_up(c);
         c->is_committed = 1;
     }
-    while ((size_t)count < room && c->confirmed < c->stored)
-        list[count++] = c->pending[c->confirmed++];
-    return count;
+    while (*count < room && c->confirmed < c->stored)
+        list[(*count)++] = c->pending[c->confirmed++];
+    return ANSWER_DONE;
 }
 
 /* ---- Reading */
@@ -158,110 +158,111 @@ static void seek(struct carrier *base, unsigned shard, uint64_t offset)
 }
 
 /* Room for a fetch's first frame, which may be longer than those before. */
-static int grow(struct sqlite_carrier *c, size_t len)
+static enum answer grow(struct sqlite_carrier *c, size_t len)
 {
     uint8_t *more = realloc(c->frames, len);
     if (more == NULL) {
         log_system("out_of_memory", "carrier");
-        return -1;
+        return ANSWER_FAULT;
     }
     c->frames = more;
     c->room = len;
-    return 0;
+    return ANSWER_DONE;
 }
 
 /* Copies the frame of a row after the first `used` bytes; -1 where there is no room, or a fault, which is reported. */
-static int copy_row(struct sqlite_carrier *c, const struct statement *select, struct carried *it,
-                    size_t used)
+static enum answer copy_row(struct sqlite_carrier *c, const struct statement *select, struct carried *it,
+                            size_t used)
 {
     const void *frame = sqlite3_column_blob(select->at, 2);
     const char *session = (const char *)sqlite3_column_text(select->at, 1);
     it->len = (size_t)sqlite3_column_bytes(select->at, 2);
-    if (check_columns(select) != 0)
-        return -1;
-    if (it->len > c->room - used && (used > 0 || grow(c, it->len) != 0))
-        return -1;
+    if (check_columns(select) != ANSWER_DONE)
+        return ANSWER_FAULT;
+    if (it->len > c->room - used && (used > 0 || grow(c, it->len) != ANSWER_DONE))
+        return ANSWER_FAULT;
     it->offset = (uint64_t)sqlite3_column_int64(select->at, 0);
     copy_cut(it->session, sizeof it->session, session);
     it->frame = c->frames + used;
     if (it->len > 0)
         memcpy(c->frames + used, frame, it->len);
-    return 0;
+    return ANSWER_DONE;
 }
 
 /* What stands after the reader now. */
-static int fetch(struct carrier *base, struct carried *list, size_t limit)
+static enum answer fetch(struct carrier *base, struct carried *list, size_t limit, size_t *count)
 {
     struct sqlite_carrier *c = (struct sqlite_carrier *)base;
     struct statement *select = &c->statements[SELECT];
     size_t used = 0;
-    int count = 0, row = 0;
+    enum answer row = ANSWER_DONE;
+    *count = 0;
     bind_number(select, 1, c->shard);
     bind_number(select, 2, (sqlite3_int64)c->after);
     bind_number(select, 3, (sqlite3_int64)limit);
-    while ((size_t)count < limit && (row = step_row(select)) == 1) {
-        if (copy_row(c, select, &list[count], used) != 0)
+    while (*count < limit && (row = step_row(select)) == ANSWER_FOUND) {
+        if (copy_row(c, select, &list[*count], used) != ANSWER_DONE)
             break; /* the rest comes with the next fetch */
-        used += list[count++].len;
+        used += list[(*count)++].len;
     }
     end_rows(select);
-    if (count > 0)
-        c->after = list[count - 1].offset;
-    return count > 0 || row == 0 ? count : CARRIER_FAULT; /* a row that isn't copied isn't that nothing came */
+    if (*count > 0)
+        c->after = list[*count - 1].offset;
+    return *count > 0 ? ANSWER_DONE : row == ANSWER_DONE ? row : ANSWER_FAULT; /* a row that isn't copied came, too */
 }
 
-static int behind(struct carrier *base, uint64_t *frames)
+static enum answer behind(struct carrier *base, uint64_t *frames)
 {
     struct sqlite_carrier *c = (struct sqlite_carrier *)base;
     struct statement *count = &c->statements[COUNT];
-    int row;
+    enum answer row;
     bind_number(count, 1, c->shard);
     bind_number(count, 2, (sqlite3_int64)c->after);
     row = step_row(count);
-    if (row == 1)
+    if (row == ANSWER_FOUND)
         *frames = (uint64_t)sqlite3_column_int64(count->at, 0);
     end_rows(count);
-    return row == 1 ? 0 : -1;
+    return row == ANSWER_FOUND ? ANSWER_DONE : ANSWER_FAULT;
 }
 
 /* ---- Receipts */
 
-static int add_receipts(struct sqlite_carrier *c, const struct carried *list, size_t count)
+static enum answer add_receipts(struct sqlite_carrier *c, const struct carried *list, size_t count)
 {
     struct statement *add = &c->statements[ADD_RECEIPT];
     size_t i;
     for (i = 0; i < count; i++) {
         bind_text(add, 1, list[i].session);
         bind_bytes(add, 2, list[i].frame, list[i].len);
-        if (step_once(add) != 0)
-            return -1;
+        if (step_once(add) != ANSWER_DONE)
+            return ANSWER_FAULT;
     }
-    return 0;
+    return ANSWER_DONE;
 }
 
-static int acknowledge(struct carrier *base, unsigned shard, const struct carried *list,
-                       size_t count)
+static enum answer acknowledge(struct carrier *base, unsigned shard, const struct carried *list,
+                               size_t count)
 {
     struct sqlite_carrier *c = (struct sqlite_carrier *)base;
     (void)shard;
-    if (begin_writing(c->db) != 0)
-        return -1;
-    if (add_receipts(c, list, count) == 0 && run(c->db, "COMMIT") == 0)
-        return 0;
+    if (begin_writing(c->db) != ANSWER_DONE)
+        return ANSWER_FAULT;
+    if (add_receipts(c, list, count) == ANSWER_DONE && run(c->db, "COMMIT") == ANSWER_DONE)
+        return ANSWER_DONE;
     roll_back(c->db);
-    return -1;
+    return ANSWER_FAULT;
 }
 
 /* Passes the receipts that a statement gives. */
-static int give_receipts(struct statement *select, sqlite3_int64 *turn, carrier_receipt *take,
-                         void *given)
+static enum answer give_receipts(struct statement *select, sqlite3_int64 *turn, carrier_receipt *take,
+                                 void *given)
 {
-    int row;
-    while ((row = step_row(select)) == 1) {
+    enum answer row;
+    while ((row = step_row(select)) == ANSWER_FOUND) {
         const char *session = (const char *)sqlite3_column_text(select->at, 1);
         const void *receipt = sqlite3_column_blob(select->at, 2);
-        if (check_columns(select) != 0) {
-            row = -1;
+        if (check_columns(select) != ANSWER_DONE) {
+            row = ANSWER_FAULT;
             break;
         }
         *turn = sqlite3_column_int64(select->at, 0);
@@ -272,7 +273,7 @@ static int give_receipts(struct statement *select, sqlite3_int64 *turn, carrier_
     return row;
 }
 
-static int receipts(struct carrier *base, carrier_receipt *take, void *given)
+static enum answer receipts(struct carrier *base, carrier_receipt *take, void *given)
 {
     struct sqlite_carrier *c = (struct sqlite_carrier *)base;
     bind_number(&c->statements[SELECT_RECEIPTS], 1, c->receipt);
@@ -306,20 +307,20 @@ static void close_it(struct carrier *base)
     free(c);
 }
 
-static int open_it(struct sqlite_carrier *c, const char *path)
+static enum answer open_it(struct sqlite_carrier *c, const char *path)
 {
     struct statement select = { NULL, 0 };
     c->room = 1 << 20;
     c->frames = malloc(c->room);
     c->db = open_database(path, tables);
     if (c->frames == NULL || c->db == NULL
-        || prepare_all(c->db, c->statements, sql, STATEMENTS) != 0
-        || prepare_rows(c->db, &c->added, insert) != 0)
-        return -1;
-    if (prepare(c->db, &select, "SELECT number FROM incarnation") == 0 && step_row(&select) == 1)
+        || prepare_all(c->db, c->statements, sql, STATEMENTS) != ANSWER_DONE
+        || prepare_rows(c->db, &c->added, insert) != ANSWER_DONE)
+        return ANSWER_FAULT;
+    if (prepare(c->db, &select, "SELECT number FROM incarnation") == ANSWER_DONE && step_row(&select) == ANSWER_FOUND)
         c->incarnation = (uint64_t)sqlite3_column_int64(select.at, 0);
     finalize(&select, 1);
-    return c->incarnation > 0 ? 0 : -1;
+    return c->incarnation > 0 ? ANSWER_DONE : ANSWER_FAULT;
 }
 
 static uint64_t not_due(struct carrier *base)
@@ -335,7 +336,7 @@ struct carrier *sqlite_carrier_open(const char *path)
         return NULL;
     c->base = (struct carrier){ incarnation, make, publish, confirmed, seek, fetch, behind, acknowledge, receipts, forget,
                                 never, never, close_it, not_due, path, -1 };
-    if (open_it(c, path) == 0)
+    if (open_it(c, path) == ANSWER_DONE)
         return &c->base;
     close_it(&c->base);
     return NULL;

@@ -13,8 +13,8 @@ static sqlite3_int64 count_of(sqlite3 *db, const char *sql)
 {
     struct statement count;
     sqlite3_int64 rows;
-    check(prepare(db, &count, sql) == 0, "a question is prepared");
-    check(step_row(&count) == 1, "it has a row");
+    check(prepare(db, &count, sql) == ANSWER_DONE, "a question is prepared");
+    check(step_row(&count) == ANSWER_FOUND, "it has a row");
     rows = sqlite3_column_int64(count.at, 0);
     end_rows(&count);
     finalize(&count, 1);
@@ -27,21 +27,21 @@ static void test_values(void)
     sqlite3 *db = open_database(":memory:", "CREATE TABLE it (number INTEGER, text TEXT,"
                                             " bytes BLOB)");
     struct statement insert[1];
-    check(db != NULL && prepare_all(db, insert, sql, 1) == 0, "a statement is prepared");
+    check(db != NULL && prepare_all(db, insert, sql, 1) == ANSWER_DONE, "a statement is prepared");
     bind_number(insert, 4, 7);
-    check(step_once(insert) == -1, "a place that it doesn't have: it isn't run");
+    check(step_once(insert) == ANSWER_FAULT, "a place that it doesn't have: it isn't run");
     check(count_of(db, "SELECT count(*) FROM it") == 0, "and has no effect");
     bind_number(insert, 1, 7);
     bind_letters(insert, 2, "ab", 1);
     bind_bytes(insert, 3, NULL, 0);
-    check(step_once(insert) == 0, "the next time it is");
+    check(step_once(insert) == ANSWER_DONE, "the next time it is");
     check(count_of(db, "SELECT count(*) FROM it WHERE number = 7 AND text = 'a'"
                        " AND typeof(bytes) = 'blob' AND length(bytes) = 0") == 1, "with its values");
-    check(step_row(insert) == 0, "a row that is open");
+    check(step_row(insert) == ANSWER_DONE, "a row that is open");
     bind_text(insert, 4, "none");
-    check(step_row(insert) == -1, "a text without a place");
+    check(step_row(insert) == ANSWER_FAULT, "a text without a place");
     end_rows(insert);
-    check(step_once(insert) == 0, "after the end of its rows it is run again");
+    check(step_once(insert) == ANSWER_DONE, "after the end of its rows it is run again");
     finalize(insert, 1);
     close_database(db);
 }
@@ -61,22 +61,25 @@ static void test_rows(void)
     sqlite3 *db = open_database(":memory:", "CREATE TABLE it (name TEXT, number INTEGER, bytes BLOB)");
     struct rows rows;
     int i;
-    check(db != NULL && prepare_rows(db, &rows, "INSERT INTO it VALUES ($1, $2, $3)") == 0, "rows are prepared");
+    check(db != NULL
+          && prepare_rows(db, &rows, "INSERT INTO it VALUES ($1, $2, $3)") == ANSWER_DONE, "rows are prepared");
     for (i = 0; i <= ROWS; i++) {
         char name[] = "row", byte = (char)(' ' + i);
         check(add(&rows, name, i, &byte, 1) == 0, "a row is added");
         memset(name, 0, sizeof name); /* it was copied, and so is the byte */
     }
     check(count_of(db, all) == ROWS, "so many are inserted together");
-    check(insert_rows(&rows) == 0 && count_of(db, all) == ROWS + 1, "and the rest at the end");
+    check(insert_rows(&rows) == ANSWER_DONE && count_of(db, all) == ROWS + 1, "and the rest at the end");
     check(count_of(db, "SELECT count(*) FROM it WHERE rowid = number + 1 AND name = 'row'"
                        " AND bytes = CAST(char(32 + number) AS BLOB)") == ROWS + 1, "each with its values, in their order");
     check(add(&rows, "row", 99, large, sizeof large) == 0 && count_of(db, all) == ROWS + 2, "long ones sooner");
     check(add(&rows, "row", 100, large, 1) == 0, "one that is forgotten");
     forget_rows(&rows);
-    check(insert_rows(&rows) == 0 && count_of(db, all) == ROWS + 2, "isn't there");
-    check(add(&rows, NULL, 101, large, 1) == 0 && insert_rows(&rows) == -1, "one without its name is a fault");
-    check(add(&rows, "row", 102, large, 1) == 0 && insert_rows(&rows) == 0 && count_of(db, all) == ROWS + 3, "once");
+    check(insert_rows(&rows) == ANSWER_DONE && count_of(db, all) == ROWS + 2, "isn't there");
+    check(add(&rows, NULL, 101, large, 1) == 0
+          && insert_rows(&rows) == ANSWER_FAULT, "one without its name is a fault");
+    check(add(&rows, "row", 102, large, 1) == 0 && insert_rows(&rows) == ANSWER_DONE
+          && count_of(db, all) == ROWS + 3, "once");
     finalize(&rows.all, 1);
     close_database(db);
 }

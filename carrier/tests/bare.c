@@ -42,70 +42,74 @@ struct bare {
 /* ---- The sender */
 
 /* What is carried is dropped, and what waits is taken, in one transaction. */
-static int take_texts(struct bare *b)
+static enum answer take_texts(struct bare *b)
 {
     bind_number(&b->statements[DROP], 1, (sqlite3_int64)b->last);
     bind_number(&b->statements[MOVE], 1, TAKEN);
-    if (begin_writing(b->db) != 0 || step_once(&b->statements[DROP]) != 0 || step_once(&b->statements[MOVE]) != 0
-        || step_once(&b->statements[CLEAR]) != 0 || run(b->db, "COMMIT") != 0)
-        return -1;
+    if (begin_writing(b->db) != ANSWER_DONE || step_once(&b->statements[DROP]) != ANSWER_DONE
+        || step_once(&b->statements[MOVE]) != ANSWER_DONE
+        || step_once(&b->statements[CLEAR]) != ANSWER_DONE || run(b->db, "COMMIT") != ANSWER_DONE)
+        return ANSWER_FAULT;
     b->dropped = b->last;
     b->kept = milliseconds();
-    return 0;
+    return ANSWER_DONE;
 }
 
-static int await_carried(struct bare *b, int sent)
+static enum answer await_carried(struct bare *b, size_t sent)
 {
-    int came = 0;
-    for (; sent > 0 && came >= 0 && !is_ending(); sent -= came) {
-        came = b->carrier->confirmed(b->carrier, b->confirmed, TAKEN);
+    enum answer answer = ANSWER_DONE;
+    size_t came = 0;
+    for (; sent > 0 && answer == ANSWER_DONE && !is_ending(); sent -= came) {
+        answer = b->carrier->confirmed(b->carrier, b->confirmed, TAKEN, &came);
         if (came == 0)
             waiting_for(b->carrier->descriptor, milliseconds() + SHORT);
     }
-    return sent == 0 ? 0 : -1;
+    return sent == 0 ? ANSWER_DONE : ANSWER_FAULT;
 }
 
 /* Publishes what was taken, and waits until it is carried. */
-static int publish_rows(struct bare *b)
+static enum answer publish_rows(struct bare *b)
 {
     struct statement *select = &b->statements[SELECT];
-    int sent = 0, answer = 0;
+    enum answer answer = ANSWER_DONE;
+    size_t sent = 0;
     bind_number(select, 1, (sqlite3_int64)b->last);
-    while (answer == 0 && step_row(select) == 1) {
+    while (answer == ANSWER_DONE && step_row(select) == ANSWER_FOUND) {
         b->last = (uint64_t)sqlite3_column_int64(select->at, 0);
         answer = b->carrier->publish(b->carrier, 0, (const char *)sqlite3_column_text(select->at, 1), 0, b->last,
                                      sqlite3_column_blob(select->at, 2), (size_t)sqlite3_column_bytes(select->at, 2));
         sent++;
     }
     end_rows(select);
-    return answer == 0 ? await_carried(b, sent) : -1;
+    return answer == ANSWER_DONE ? await_carried(b, sent) : ANSWER_FAULT;
 }
 
 static int has_text(struct bare *b)
 {
-    int row = step_row(&b->statements[HAS_TEXT]); /* a fault is reported */
+    enum answer row = step_row(&b->statements[HAS_TEXT]); /* a fault is reported */
     end_rows(&b->statements[HAS_TEXT]);
-    return row == 1;
+    return row == ANSWER_FOUND;
 }
 
 /* Waits until there is a list to which frames are published. */
 static void await_list(struct bare *b)
 {
+    size_t came;
     while (b->list == 0 && !is_ending()) {
         (void)b->carrier->make(b->carrier, 0, &b->list); /* a fault is reported, and it is tried again */
-        (void)b->carrier->confirmed(b->carrier, b->confirmed, TAKEN);
+        (void)b->carrier->confirmed(b->carrier, b->confirmed, TAKEN, &came);
         waiting_for(b->carrier->descriptor, milliseconds() + SHORT);
     }
 }
 
-static int send_all(struct bare *b)
+static enum answer send_all(struct bare *b)
 {
-    int answer = 0;
+    enum answer answer = ANSWER_DONE;
     await_list(b);
-    while (answer == 0 && !is_ending()) {
+    while (answer == ANSWER_DONE && !is_ending()) {
         int texts = has_text(b), is_due = b->dropped < b->last && milliseconds() - b->kept >= SHORT;
         if (texts || is_due)
-            answer = take_texts(b) != 0 ? -1 : publish_rows(b);
+            answer = take_texts(b) != ANSWER_DONE ? ANSWER_FAULT : publish_rows(b);
         else
             (void)waiting_until(&b->waiting, milliseconds() + (b->dropped < b->last ? SHORT : LONG));
     }
@@ -115,36 +119,38 @@ static int send_all(struct bare *b)
 /* ---- The receiver */
 
 /* Stores the effects of these frames, and how far the shard was read. */
-static int store_frames(struct bare *b, int count)
+static enum answer store_frames(struct bare *b, size_t count)
 {
     struct reached to = { b->list, b->frames[count - 1].offset };
-    int i, answer = store_begin(b->store, 0, &b->reached, &to);
-    for (i = 0; i < count && answer == 0; i++) {
+    enum answer answer = store_begin(b->store, 0, &b->reached, &to);
+    size_t i;
+    for (i = 0; i < count && answer == ANSWER_DONE; i++) {
         const struct carried *it = &b->frames[i];
         struct arrived text = { it->session, "", "", it->offset, 0, it->frame, it->len };
         answer = take_effect(b->store, &text);
     }
-    if (answer != 0 || b->store->commit(b->store) != 0)
-        return -1;
+    if (answer != ANSWER_DONE || b->store->commit(b->store) != ANSWER_DONE)
+        return ANSWER_FAULT;
     b->reached = to;
-    return 0;
+    return ANSWER_DONE;
 }
 
-static int receive_all(struct bare *b)
+static enum answer receive_all(struct bare *b)
 {
     uint64_t end = 0;
-    int count = 0;
-    while (b->list == 0 && !is_ending() && b->carrier->incarnation(b->carrier, 0, &b->list, &end) == 0)
+    enum answer answer = ANSWER_DONE;
+    size_t count = 0;
+    while (b->list == 0 && !is_ending() && b->carrier->incarnation(b->carrier, 0, &b->list, &end) == ANSWER_DONE)
         pause_milliseconds(SHORT);
     b->carrier->seek(b->carrier, 0, 0);
-    while (count >= 0 && !is_ending()) {
-        count = b->carrier->fetch(b->carrier, b->frames, TAKEN);
-        if (count > 0 && store_frames(b, count) != 0)
-            count = -1;
+    while (answer == ANSWER_DONE && !is_ending()) {
+        answer = b->carrier->fetch(b->carrier, b->frames, TAKEN, &count);
+        if (count > 0 && store_frames(b, count) != ANSWER_DONE)
+            answer = ANSWER_FAULT;
         if (count == 0)
             (void)waiting_until(&b->waiting, milliseconds() + LONG);
     }
-    return count < 0 ? -1 : 0;
+    return answer;
 }
 
 /* ---- */
@@ -179,5 +185,5 @@ int main(int count, char **words)
     end_by_signals();
     if (begin(&bare, sends, words[2], &options) != 0)
         return 1;
-    return (sends ? send_all(&bare) : receive_all(&bare)) != 0 && !is_ending();
+    return (sends ? send_all(&bare) : receive_all(&bare)) != ANSWER_DONE && !is_ending();
 }

@@ -57,20 +57,23 @@ static void await(const struct carrier *c, unsigned time)
 
 static int confirmed_in(struct carrier *c, struct confirmed *list, size_t room)
 {
+    size_t count = 0;
     await(c, 100);
-    return c->confirmed(c, list, room);
+    return c->confirmed(c, list, room, &count) == ANSWER_DONE ? (int)count : -1;
 }
 
 /* What it fetches within some seconds. */
 static int fetched_in(struct carrier *c, struct carried *list, size_t room)
 {
-    int had = 0, tries;
-    for (tries = 0; had == 0 && tries < PATIENCE; tries++) {
-        had = c->fetch(c, list, room);
+    enum answer answer = ANSWER_DONE;
+    size_t had = 0;
+    int tries;
+    for (tries = 0; had == 0 && answer == ANSWER_DONE && tries < PATIENCE; tries++) {
+        answer = c->fetch(c, list, room, &had);
         if (had == 0)
             await(c, 100);
     }
-    return had;
+    return answer == ANSWER_DONE ? (int)had : -1;
 }
 
 /* Answers come with confirmations. */
@@ -79,7 +82,7 @@ static void await_shard(struct carrier *c, unsigned shard)
     static struct confirmed list[1];
     uint64_t made = 0;
     int tries;
-    for (tries = 0; tries < PATIENCE && c->make(c, shard, &made) != 0; tries++)
+    for (tries = 0; tries < PATIENCE && c->make(c, shard, &made) != ANSWER_DONE; tries++)
         check(confirmed_in(c, list, 1) == 0, "nothing is confirmed that wasn't published");
     check(made > 0, "a shard is made");
 }
@@ -91,7 +94,7 @@ static void turns_all(struct carrier *c)
     for (i = 0; i < FRAMES; i++) {
         unsigned shard = SHARD + i % 2;
         fill(frame, shard, i);
-        check(c->publish(c, shard, session_of(i), i, 10 * i, frame, len_of(i)) == 0,
+        check(c->publish(c, shard, session_of(i), i, 10 * i, frame, len_of(i)) == ANSWER_DONE,
               "publish");
     }
 }
@@ -134,6 +137,7 @@ static void read_from(struct carrier *reader, unsigned i, uint64_t offset)
 {
     static struct carried list[64];
     unsigned shard = SHARD + i % 2;
+    size_t left = 1;
     int at, had, tries;
     reader->seek(reader, shard, offset);
     for (tries = 0; i < FRAMES && tries < PATIENCE; tries++) {
@@ -142,18 +146,18 @@ static void read_from(struct carrier *reader, unsigned i, uint64_t offset)
             check_fetched(&list[at], shard, i);
     }
     check(i >= FRAMES, "all are fetched");
-    check(reader->fetch(reader, list, 64) == 0, "and no more");
+    check(reader->fetch(reader, list, 64, &left) == ANSWER_DONE && left == 0, "and no more");
 }
 
 /* Each reader of a shard gets the same incarnation, and nothing stands after the end. */
 static void check_shards(struct carrier *c, struct carrier *reader)
 {
     uint64_t made = 0, asked = 0, behind = 1, end = 0;
-    check(c->make(c, SHARD, &made) == 0 && made > 0, "it is made");
-    check(reader->incarnation(reader, SHARD, &asked, &end) == 0 && asked == made, "its incarnation");
+    check(c->make(c, SHARD, &made) == ANSWER_DONE && made > 0, "it is made");
+    check(reader->incarnation(reader, SHARD, &asked, &end) == ANSWER_DONE && asked == made, "its incarnation");
     check(end == offsets[FRAMES - 2], "its last offset");
     read_from(reader, 2, offsets[0]);
-    check(reader->behind(reader, &behind) == 0 && behind == 0, "nothing stands after the end");
+    check(reader->behind(reader, &behind) == ANSWER_DONE && behind == 0, "nothing stands after the end");
 }
 
 /* Without memory for a frame, a fetch fails: it doesn't answer that nothing came. */
@@ -162,14 +166,17 @@ static void check_out_of_memory(struct carrier *c, struct carrier *reader)
     static const uint8_t frame[LONG];
     struct confirmed of[1];
     struct carried list[1];
+    size_t count = 0;
     reader->seek(reader, SHARD, 0);
     check(fetched_in(reader, list, 1) == 1, "a frame, of a reader that has begun");
     if (reader->file != NULL) {
-        check(c->publish(c, SHARD, "tom-7", 1, 1, frame, LONG) == 0 && c->confirmed(c, of, 1) == 1, "a long frame");
+        check(c->publish(c, SHARD, "tom-7", 1, 1, frame, LONG) == ANSWER_DONE
+              && c->confirmed(c, of, 1, &count) == ANSWER_DONE
+              && count == 1, "a long frame");
         reader->seek(reader, SHARD, of[0].offset - 1);
     }
     is_out_of_memory = 1;
-    check(reader->fetch(reader, list, 1) == CARRIER_FAULT, "it has no memory");
+    check(reader->fetch(reader, list, 1, &count) == ANSWER_FAULT, "it has no memory");
     is_out_of_memory = 0;
     check(fetched_in(reader, list, 1) == 1, "and the next one has it");
     check(reader->file == NULL || list[0].len == LONG, "the long frame");

@@ -72,37 +72,39 @@ static int happens(void)
     return rand() % 1000 < faults;
 }
 
-static int publish(struct carrier *c, unsigned shard, const char *session, uint32_t tag,
-                   uint64_t number, const uint8_t *frame, size_t len)
+static enum answer publish(struct carrier *c, unsigned shard, const char *session, uint32_t tag,
+                           uint64_t number, const uint8_t *frame, size_t len)
 {
     if (lost == 0 && happens())
         lost = 1 + (unsigned)rand() % 3;
     if (lost > 0) {
         lost--;
-        return 0;
+        return ANSWER_DONE;
     }
     if (happens()) /* the first copy is confirmed to nobody */
         real.publish(c, shard, session, UINT32_MAX, number, frame, len);
     return real.publish(c, shard, session, tag, number, frame, len);
 }
 
-static int confirmed(struct carrier *c, struct confirmed *list, size_t room)
+static enum answer confirmed(struct carrier *c, struct confirmed *list, size_t room, size_t *count)
 {
-    int i, kept = 0, count = real.confirmed(c, list, room);
-    for (i = 0; i < count; i++)
+    size_t i, came = 0;
+    enum answer answer = real.confirmed(c, list, room, &came);
+    *count = 0;
+    for (i = 0; i < came; i++)
         if (!happens())
-            list[kept++] = list[i];
-    return count < 0 ? count : kept;
+            list[(*count)++] = list[i];
+    return answer;
 }
 
 /* A receipt may be lost as a frame. */
-static int acknowledge(struct carrier *c, unsigned shard, const struct carried *list, size_t count)
+static enum answer acknowledge(struct carrier *c, unsigned shard, const struct carried *list, size_t count)
 {
     size_t i;
     for (i = 0; i < count; i++)
-        if (!happens() && real.acknowledge(c, shard, list + i, 1) != 0)
-            return -1;
-    return 0;
+        if (!happens() && real.acknowledge(c, shard, list + i, 1) != ANSWER_DONE)
+            return ANSWER_FAULT;
+    return ANSWER_DONE;
 }
 
 struct carrier *__wrap_sqlite_carrier_open(const char *path)

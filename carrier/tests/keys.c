@@ -15,11 +15,11 @@ int main(int count, char **words)
     check(count > 4, "OUTBOX KEYTAB PRINCIPAL NAME..");
     options.keytab = words[2];
     kerberos = kerberos_open(&options, words[3]);
-    check(kerberos != NULL && outbox_open(&outbox, words[1]) == 0, "outbox and keytab");
+    check(kerberos != NULL && outbox_open(&outbox, words[1]) == ANSWER_DONE, "outbox and keytab");
     for (i = 4; i < count; i++) {
         struct begun it;
         char digits[2 * SESSION_KEY + 1];
-        check(outbox_find_begun(&outbox, kerberos, words[i], &it) == 1, "a session");
+        check(outbox_find_begun(&outbox, kerberos, words[i], &it) == ANSWER_FOUND, "a session");
         write_hex(it.opened.key, it.opened.key_len, digits);
         puts(digits);
     }

@@ -59,38 +59,38 @@ static void put(struct outbox *outbox, const char *session, const void *text, si
 
 /* Takes all that waits, so many texts together, in a transaction that it begins. Answers what the last one
  * did. */
-static enum seal_answer take_waiting(struct sealing *sealing, struct outbox *outbox, struct sending *sending,
-                                     unsigned together)
+static enum answer take_waiting(struct sealing *sealing, struct outbox *outbox, struct sending *sending,
+                                unsigned together)
 {
     struct statement *select;
     struct waiting_text text;
-    enum seal_answer answer = SEAL_OK;
-    check(seal_begin(sealing, outbox, together) == 0, "there is memory");
-    check(outbox_begin(outbox) == OUTBOX_OK, "a transaction begins");
+    enum answer answer = ANSWER_DONE;
+    check(seal_begin(sealing, outbox, together) == ANSWER_DONE, "there is memory");
+    check(outbox_begin(outbox) == ANSWER_DONE, "a transaction begins");
     select = outbox_select_texts(outbox, 0, 1000);
-    while (answer == SEAL_OK && outbox_next_text(select, &text) == 1)
+    while (answer == ANSWER_DONE && outbox_next_text(select, &text) == ANSWER_FOUND)
         answer = seal_text(sealing, sending, &text);
     end_rows(select);
     return answer;
 }
 
 /* The same, and seals it. */
-static enum seal_answer seal_waiting(struct outbox *outbox, struct sending *sending, unsigned together)
+static enum answer seal_waiting(struct outbox *outbox, struct sending *sending, unsigned together)
 {
     struct sealing sealing;
-    enum seal_answer answer = take_waiting(&sealing, outbox, sending, together);
-    if (answer == SEAL_OK)
+    enum answer answer = take_waiting(&sealing, outbox, sending, together);
+    if (answer == ANSWER_DONE)
         answer = seal_all(&sealing);
     seal_end(&sealing);
     return answer;
 }
 
 /* The same, committed if all could be sealed. */
-static enum seal_answer seal_and_commit(struct outbox *outbox, struct sending *sending, unsigned together)
+static enum answer seal_and_commit(struct outbox *outbox, struct sending *sending, unsigned together)
 {
-    enum seal_answer answer = seal_waiting(outbox, sending, together);
-    if (answer == SEAL_OK)
-        check(outbox_commit(outbox) == 0, "it is committed");
+    enum answer answer = seal_waiting(outbox, sending, together);
+    if (answer == ANSWER_DONE)
+        check(outbox_commit(outbox) == ANSWER_DONE, "it is committed");
     else
         outbox_rollback(outbox);
     return answer;
@@ -133,12 +133,13 @@ static void test_texts(struct outbox *outbox)
     for (i = 0; i < TEXTS; i++)
         put(outbox, of.name, bytes, lens[i]);
     put(outbox, of.name, NULL, 0);
-    check(seal_and_commit(outbox, &sending, 1) == SEAL_OK, "all is sealed");
+    check(seal_and_commit(outbox, &sending, 1) == ANSWER_DONE, "all is sealed");
     check(krbrelay_receiver_new(&receiver, of.etype, of.key, of.key_len, &expect, 1, 0) == KRBRELAY_OK,
           "a receiver is made");
     outbox_select_frames(outbox, of.name, 0, 1000);
     for (i = 0; i <= TEXTS; i++) {
-        check(outbox_next_frame(outbox, &number, &found, &len) == 1 && number == i + 1, "a frame for each text");
+        check(outbox_next_frame(outbox, &number, &found, &len) == ANSWER_FOUND
+              && number == i + 1, "a frame for each text");
         check_record(&receiver, found, len, i < TEXTS ? KRBRELAY_TEXT : KRBRELAY_CLOSE, bytes,
                      i < TEXTS ? lens[i] : 0);
     }
@@ -202,9 +203,9 @@ static void test_confounders(struct outbox *outbox)
     size_t len = 0, i, k;
     for (i = 0; i < SAME; i++)
         put(outbox, of.name, bytes, 4);
-    check(seal_and_commit(outbox, &sending, 1) == SEAL_OK, "equal texts are sealed");
+    check(seal_and_commit(outbox, &sending, 1) == ANSWER_DONE, "equal texts are sealed");
     outbox_select_frames(outbox, of.name, 0, 1000);
-    for (i = 0; i < SAME && outbox_next_frame(outbox, &number, &found, &len) == 1; i++) {
+    for (i = 0; i < SAME && outbox_next_frame(outbox, &number, &found, &len) == ANSWER_FOUND; i++) {
         memcpy(first[i], cipher_of(found, len), 16);
         for (k = 0; k < i; k++)
             check(memcmp(first[i], first[k], 16) != 0, "confounders differ");
@@ -221,19 +222,20 @@ static void test_last_number(struct outbox *outbox)
     struct session of = session_of("last", KRBRELAY_SAFE, UINT32_MAX - 1);
     struct sending sending = sending_of(of);
     put(outbox, of.name, bytes, 1);
-    check(seal_and_commit(outbox, &sending, 1) == SEAL_OK, "the number before the last is a text's");
+    check(seal_and_commit(outbox, &sending, 1) == ANSWER_DONE, "the number before the last is a text's");
     check(sqlite3_exec(outbox->db, "DELETE FROM text; DELETE FROM sealed", NULL, NULL, NULL) == SQLITE_OK, "it is taken");
     put(outbox, of.name, bytes, 1);
-    check(seal_and_commit(outbox, &sending, 1) == SEAL_STOP, "no text has the last number");
+    check(seal_and_commit(outbox, &sending, 1) == ANSWER_STOPPED, "no text has the last number");
     seal_reset(&sending, &of_none);
     sending.sealed = UINT32_MAX;
     put(outbox, of.name, bytes, 1);
-    check(seal_and_commit(outbox, &sending, 2) == SEAL_STOP, "nor has a batch");
+    check(seal_and_commit(outbox, &sending, 2) == ANSWER_STOPPED, "nor has a batch");
     seal_reset(&sending, &of_none);
     sending.sealed = UINT32_MAX;
     check(sqlite3_exec(outbox->db, "DELETE FROM text; DELETE FROM sealed", NULL, NULL, NULL) == SQLITE_OK, "it is dropped");
     put(outbox, of.name, NULL, 0);
-    check(seal_and_commit(outbox, &sending, 1) == SEAL_OK && sending.sealed == UINT64_C(1) << 32, "the close has it");
+    check(seal_and_commit(outbox, &sending, 1) == ANSWER_DONE
+          && sending.sealed == UINT64_C(1) << 32, "the close has it");
     seal_free(&sending);
 }
 
@@ -248,16 +250,17 @@ static void test_taken_back(struct outbox *outbox)
     uint64_t number = 0;
     size_t len = 0;
     put(outbox, of.name, bytes, 5);
-    check(seal_waiting(outbox, &sending, 1) == SEAL_OK && sending.sealed == 8, "a text is sealed");
+    check(seal_waiting(outbox, &sending, 1) == ANSWER_DONE && sending.sealed == 8, "a text is sealed");
     outbox_rollback(outbox);
     seal_reset(&sending, &of_none);
-    check(seal_and_commit(outbox, &sending, 1) == SEAL_OK && sending.sealed == 8, "it is sealed again");
+    check(seal_and_commit(outbox, &sending, 1) == ANSWER_DONE && sending.sealed == 8, "it is sealed again");
     check(krbrelay_receiver_new(&receiver, of.etype, of.key, of.key_len, &expect, 7, 0) == KRBRELAY_OK,
           "a receiver is made");
     outbox_select_frames(outbox, of.name, 0, 1000);
-    check(outbox_next_frame(outbox, &number, &found, &len) == 1 && number == 7, "its frame has the same number");
+    check(outbox_next_frame(outbox, &number, &found, &len) == ANSWER_FOUND
+          && number == 7, "its frame has the same number");
     check_record(&receiver, found, len, KRBRELAY_TEXT, bytes, 5);
-    check(outbox_next_frame(outbox, &number, &found, &len) == 0, "and is the only one");
+    check(outbox_next_frame(outbox, &number, &found, &len) == ANSWER_DONE, "and is the only one");
     outbox_end_frames(outbox);
     krbrelay_receiver_free(&receiver);
     seal_free(&sending);
@@ -279,7 +282,7 @@ static void test_waiting(struct outbox *outbox)
         struct statement *select = outbox_select_waiting(outbox, "waits", last - 2 * cases[i].before,
                                                          (size_t)cases[i].limit);
         int found = 0;
-        while (outbox_next_text(select, &text) == 1 && strcmp(text.session, "waits") == 0)
+        while (outbox_next_text(select, &text) == ANSWER_FOUND && strcmp(text.session, "waits") == 0)
             found++;
         sqlite3_reset(select->at);
         check(found == cases[i].found, "texts up to one of them are given");
@@ -297,7 +300,7 @@ static void test_noted(struct outbox *outbox)
     for (i = 0; i < 3; i++)
         put(outbox, of.name, bytes, 5);
     put(outbox, of.name, NULL, 0);
-    check(seal_and_commit(outbox, &sending, 3) == SEAL_OK, "a batch and the close are sealed");
+    check(seal_and_commit(outbox, &sending, 3) == ANSWER_DONE, "a batch and the close are sealed");
     check(sqlite3_prepare_v2(outbox->db, "SELECT number, part FROM sealed WHERE session = 'noted' ORDER BY text",
                              -1, &select, NULL) == SQLITE_OK, "what is noted is asked for");
     for (i = 0; i < 4; i++)
@@ -316,13 +319,14 @@ static void test_nothing_left(struct outbox *outbox)
     struct sealing sealing;
     check_is_seen(secret);
     put(outbox, of.name, secret, sizeof secret - 1);
-    check(seal_waiting(outbox, &sending, 2) == SEAL_OK && sending.texts == 1, "a text waits for another one");
+    check(seal_waiting(outbox, &sending, 2) == ANSWER_DONE && sending.texts == 1, "a text waits for another one");
     outbox_rollback(outbox);
     look_for(secret);
     seal_free(&sending);
     check(found_left() == 0, "a sender that ends leaves it nowhere");
     sending = sending_of(of);
-    check(take_waiting(&sealing, outbox, &sending, 1) == SEAL_OK && sealing.count == 1, "a record waits to be sealed");
+    check(take_waiting(&sealing, outbox, &sending, 1) == ANSWER_DONE
+          && sealing.count == 1, "a record waits to be sealed");
     outbox_rollback(outbox);
     look_for(secret);
     seal_end(&sealing);
@@ -333,7 +337,7 @@ static void test_nothing_left(struct outbox *outbox)
 static uint64_t next_of(struct outbox *outbox, const struct session *of)
 {
     struct outbox_progress it;
-    check(outbox_load(outbox, of, &it) == 0, "the outbox tells how far a session is");
+    check(outbox_load(outbox, of, &it) == ANSWER_DONE, "the outbox tells how far a session is");
     return it.next;
 }
 
@@ -343,14 +347,15 @@ static void test_compare(struct outbox *outbox)
     struct session of = session_of("compare", KRBRELAY_SAFE, 5);
     static const uint64_t wrong[] = { 5, 8, 10, 0, UINT32_MAX };
     size_t i;
-    check(outbox_begin(outbox) == OUTBOX_OK, "a transaction begins");
+    check(outbox_begin(outbox) == ANSWER_DONE, "a transaction begins");
     check(next_of(outbox, &of) == 5, "a session begins at its first number");
-    check(outbox_set_next(outbox, &of, 5, 9) == 0 && next_of(outbox, &of) == 9, "the next number is stored");
+    check(outbox_set_next(outbox, &of, 5, 9) == ANSWER_DONE && next_of(outbox, &of) == 9, "the next number is stored");
     for (i = 0; i < sizeof wrong / sizeof *wrong; i++) {
-        check(outbox_set_next(outbox, &of, wrong[i], 20) != 0, "another number than the stored one is refused");
+        check(outbox_set_next(outbox, &of, wrong[i], 20) != ANSWER_DONE,
+              "another number than the stored one is refused");
         check(next_of(outbox, &of) == 9, "and moves nothing");
     }
-    check(outbox_set_next(outbox, &of, 9, 10) == 0 && next_of(outbox, &of) == 10, "the stored one moves");
+    check(outbox_set_next(outbox, &of, 9, 10) == ANSWER_DONE && next_of(outbox, &of) == 10, "the stored one moves");
     outbox_rollback(outbox);
 }
 
@@ -384,7 +389,7 @@ static void test_bound(struct outbox *outbox)
 {
     int i;
     run_text(outbox, "DELETE FROM text; DELETE FROM sealed");
-    check(outbox_bound(outbox, 3) == 0, "a bound is set");
+    check(outbox_bound(outbox, 3) == ANSWER_DONE, "a bound is set");
     for (i = 0; i < 3; i++)
         check(insertion(outbox, "'text'")[0] == 0, "a text within the bound is taken");
     check_full(outbox, "one more is refused");
@@ -396,8 +401,9 @@ static void test_bound(struct outbox *outbox)
     run_text(outbox, "DELETE FROM sealed WHERE text = (SELECT max(text) FROM sealed)");
     check(insertion(outbox, "'text'")[0] == 0, "a receipt makes room");
     check_full(outbox, "for one text");
-    check(outbox_bound(outbox, 1) == 0 && insertion(outbox, "NULL")[0] == 0, "the close is taken in any case");
-    check(outbox_bound(outbox, 0) == 0, "the bound is taken away");
+    check(outbox_bound(outbox, 1) == ANSWER_DONE
+          && insertion(outbox, "NULL")[0] == 0, "the close is taken in any case");
+    check(outbox_bound(outbox, 0) == ANSWER_DONE, "the bound is taken away");
     run_text(outbox, "DELETE FROM closed");
     check(insertion(outbox, "'text'")[0] == 0, "then any number may wait");
 }
@@ -415,13 +421,13 @@ static void test_delays(struct outbox *outbox)
         put(outbox, of.name, bytes, 5);
     run_text(outbox, "UPDATE text SET since = since - 50 WHERE id = (SELECT min(id) FROM text);"
              "UPDATE text SET since = 0 WHERE id = (SELECT max(id) FROM text)");
-    check(seal_and_commit(outbox, &sending, 1) == SEAL_OK, "they are sealed");
-    check(outbox_begin(outbox) == OUTBOX_OK && outbox_drop_done(outbox, of.name, 4) == 0, "they are done");
+    check(seal_and_commit(outbox, &sending, 1) == ANSWER_DONE, "they are sealed");
+    check(outbox_begin(outbox) == ANSWER_DONE && outbox_drop_done(outbox, of.name, 4) == ANSWER_DONE, "they are done");
     outbox_rollback(outbox);
     check(memcmp(&outbox->delays, &none, sizeof none) == 0, "which counts for nothing while it isn't committed");
     for (i = 1; i <= 4; i++)
-        check(outbox_begin(outbox) == OUTBOX_OK && outbox_drop_done(outbox, of.name, (uint64_t)i) == 0
-              && outbox_commit(outbox) == 0, "one after the other is done");
+        check(outbox_begin(outbox) == ANSWER_DONE && outbox_drop_done(outbox, of.name, (uint64_t)i) == ANSWER_DONE
+              && outbox_commit(outbox) == ANSWER_DONE, "one after the other is done");
     check(outbox->delays.counts[8] == 1 && outbox->delays.seconds > 50 && outbox->delays.seconds < 80,
           "the first took more than 30 seconds, and 100 at most");
     for (i = 0; i < 8; i++)
@@ -451,31 +457,36 @@ static void test_done(struct outbox *outbox)
     const uint8_t *found = NULL;
     uint64_t number = 0;
     size_t len = 0;
-    check(outbox_begin(outbox) == OUTBOX_OK && outbox_set_next(outbox, &of, 1, 6) == 0
-          && outbox_add_frame(outbox, of.name, 1, bytes, 3, &unknown) == 0
-          && outbox_add_frame(outbox, of.name, 2, bytes, 3, &unknown) == 0
-          && outbox_add_frame(outbox, of.name, 4, bytes, 3, &unknown) == 0
-          && outbox_add_frame(outbox, of.name, 5, bytes, 3, &beside) == 0 && outbox_insert(outbox) == 0,
+    check(outbox_begin(outbox) == ANSWER_DONE && outbox_set_next(outbox, &of, 1, 6) == ANSWER_DONE
+          && outbox_add_frame(outbox, of.name, 1, bytes, 3, &unknown) == ANSWER_DONE
+          && outbox_add_frame(outbox, of.name, 2, bytes, 3, &unknown) == ANSWER_DONE
+          && outbox_add_frame(outbox, of.name, 4, bytes, 3, &unknown) == ANSWER_DONE
+          && outbox_add_frame(outbox, of.name, 5, bytes, 3, &beside) == ANSWER_DONE
+          && outbox_insert(outbox) == ANSWER_DONE,
           "frames are stored");
-    check(outbox_load(outbox, &of, &it) == 0, "the outbox tells how far a session is");
+    check(outbox_load(outbox, &of, &it) == ANSWER_DONE, "the outbox tells how far a session is");
     it.carried = it.done = 2;
-    check(outbox_set_carried(outbox, of.name, &it) == 0 && outbox_drop_done(outbox, of.name, it.done) == 0,
+    check(outbox_set_carried(outbox, of.name, &it) == ANSWER_DONE
+          && outbox_drop_done(outbox, of.name, it.done) == ANSWER_DONE,
           "the first frame is done");
     outbox_select_frames(outbox, of.name, 0, 10);
-    check(outbox_next_frame(outbox, &number, &found, &len) == 1 && number == 2, "the next one is kept");
+    check(outbox_next_frame(outbox, &number, &found, &len) == ANSWER_FOUND && number == 2, "the next one is kept");
     outbox_end_frames(outbox);
     check(history_add(&goes_on, bytes, 3) == 0, "a frame is added to a history");
-    check(outbox_history(outbox, &of, 2, &done, 3, &found_history) == 0 && history_is(&found_history, &goes_on),
+    check(outbox_history(outbox, &of, 2, &done, 3, &found_history) == ANSWER_DONE
+          && history_is(&found_history, &goes_on),
           "it goes on over the frame");
-    check(outbox_history(outbox, &of, 2, &done, 2, &found_history) == 0 && history_is(&found_history, &done),
+    check(outbox_history(outbox, &of, 2, &done, 2, &found_history) == ANSWER_DONE && history_is(&found_history, &done),
           "nothing follows what is done");
-    check(outbox_history(outbox, &of, 2, &done, 6, &found_history) == 0 && history_is(&found_history, &beside),
+    check(outbox_history(outbox, &of, 2, &done, 6, &found_history) == ANSWER_DONE
+          && history_is(&found_history, &beside),
           "it stands beside its last frame");
-    check(outbox_history(outbox, &of, 2, &done, 5, &found_history) == 0 && !found_history.is_known,
+    check(outbox_history(outbox, &of, 2, &done, 5, &found_history) == ANSWER_DONE && !found_history.is_known,
           "one that lacks a frame isn't known");
-    check(outbox_history(outbox, &of, 2, &unknown, 3, &found_history) == 0 && !found_history.is_known,
+    check(outbox_history(outbox, &of, 2, &unknown, 3, &found_history) == ANSWER_DONE && !found_history.is_known,
           "nor one after an unknown one");
-    check(outbox_history(outbox, &of, 1, &unknown, 1, &found_history) == 0 && history_is(&found_history, &of_none),
+    check(outbox_history(outbox, &of, 1, &unknown, 1, &found_history) == ANSWER_DONE
+          && history_is(&found_history, &of_none),
           "before the first frame it is that of none");
     outbox_rollback(outbox);
 }
@@ -507,19 +518,21 @@ static void test_ended(struct outbox *outbox)
     strcpy(sixth.opened.stream, "stream");
     check(sqlite3_exec(outbox->db, five_sessions, NULL, NULL, NULL) == SQLITE_OK, "a stream has five sessions");
     ended.count = ENDED;
-    check(outbox_forget_ended(outbox, &sixth, &ended) == 0 && ended.count == ENDED, "none where the list is full");
+    check(outbox_forget_ended(outbox, &sixth, &ended) == ANSWER_DONE
+          && ended.count == ENDED, "none where the list is full");
     ended.count = ENDED - 1;
-    check(outbox_forget_ended(outbox, &sixth, &ended) == 0 && ended.count == ENDED
+    check(outbox_forget_ended(outbox, &sixth, &ended) == ANSWER_DONE && ended.count == ENDED
           && strcmp(ended.at[ENDED - 1].name, "of-1") == 0, "one where it has room for one");
     ended.count = 1;
-    check(outbox_forget_ended(outbox, &sixth, &ended) == 0 && ended.count == 2 && ended.at[1].shard == 3
+    check(outbox_forget_ended(outbox, &sixth, &ended) == ANSWER_DONE && ended.count == 2 && ended.at[1].shard == 3
           && strcmp(ended.at[1].name, "of-2") == 0, "and then the next");
     check(number_of(outbox, "SELECT sum(turn) FROM opened") == 3 + 4 + 5
           && number_of(outbox, "SELECT count(*) FROM session WHERE name LIKE 'of-%'") == 3, "and their rows");
-    check(outbox_forget_ended(outbox, &sixth, &ended) == 0 && ended.count == 2, "no other one");
+    check(outbox_forget_ended(outbox, &sixth, &ended) == ANSWER_DONE && ended.count == 2, "no other one");
     check(sqlite3_exec(outbox->db, "DELETE FROM frame WHERE session = 'of-4';"
                        "UPDATE session SET done = 4 WHERE name = 'of-3'", NULL, NULL, NULL) == SQLITE_OK
-          && outbox_forget_ended(outbox, &sixth, &ended) == 0 && ended.count == 4, "two more without the frame");
+          && outbox_forget_ended(outbox, &sixth, &ended) == ANSWER_DONE
+          && ended.count == 4, "two more without the frame");
     check(number_of(outbox, "SELECT sum(turn) FROM opened") == 5
           && number_of(outbox, "SELECT count(*) FROM session WHERE name IN ('of-3', 'of-5')") == 2
           && number_of(outbox, "SELECT count(*) FROM session WHERE name = 'of-4'") == 0,
@@ -530,11 +543,11 @@ static void test_ended(struct outbox *outbox)
 static void test_owner(struct outbox *outbox, const char *path)
 {
     struct outbox other;
-    check(outbox_begin(outbox) == OUTBOX_OK, "its owner begins a transaction");
+    check(outbox_begin(outbox) == ANSWER_DONE, "its owner begins a transaction");
     outbox_rollback(outbox);
-    check(outbox_open(&other, path) == 0, "another sender opens the outbox");
-    check(outbox_begin(outbox) == OUTBOX_TAKEN, "the first one's turn is over");
-    check(outbox_begin(&other) == OUTBOX_OK, "it is the other's");
+    check(outbox_open(&other, path) == ANSWER_DONE, "another sender opens the outbox");
+    check(outbox_begin(outbox) == ANSWER_TAKEN, "the first one's turn is over");
+    check(outbox_begin(&other) == ANSWER_DONE, "it is the other's");
     outbox_rollback(&other);
     outbox_close(&other);
 }
@@ -550,7 +563,7 @@ int main(int count, char **words)
     for (i = 0; i < LONGEST; i++)
         bytes[i] = (uint8_t)(i * 7 + i / 256);
     snprintf(path, sizeof path, "%s/outbox.db", words[1]);
-    check(outbox_open(&outbox, path) == 0, "an outbox is opened");
+    check(outbox_open(&outbox, path) == ANSWER_DONE, "an outbox is opened");
     RUN(test_texts(&outbox));
     check(sqlite3_exec(outbox.db, "DELETE FROM text; DELETE FROM sealed", NULL, NULL, NULL) == SQLITE_OK, "texts are taken");
     RUN(test_confounders(&outbox));

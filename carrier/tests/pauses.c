@@ -16,9 +16,9 @@ static void pause_once(void)
         pause_milliseconds((unsigned)atoi(pause));
 }
 
-int __wrap_store_reached(struct store *store, unsigned shard, struct reached *reached)
+enum answer __wrap_store_reached(struct store *store, unsigned shard, struct reached *reached)
 {
-    int answer = __real_store_reached(store, shard, reached);
+    enum answer answer = __real_store_reached(store, shard, reached);
     pause_once();
     return answer;
 }

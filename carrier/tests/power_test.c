@@ -74,18 +74,18 @@ static uint64_t seal_one(struct outbox *outbox, struct sending *sending)
     const uint8_t *found = NULL;
     uint64_t number = 0;
     size_t len = 0;
-    check(seal_begin(&sealing, outbox, 1) == 0, "there is memory");
-    check(outbox_begin(outbox) == OUTBOX_OK, "a transaction begins");
+    check(seal_begin(&sealing, outbox, 1) == ANSWER_DONE, "there is memory");
+    check(outbox_begin(outbox) == ANSWER_DONE, "a transaction begins");
     select = outbox_select_texts(outbox, 0, 1);
-    check(outbox_next_text(select, &text) == 1 && seal_text(&sealing, sending, &text) == SEAL_OK
-          && seal_all(&sealing) == SEAL_OK, "a text is sealed");
+    check(outbox_next_text(select, &text) == ANSWER_FOUND && seal_text(&sealing, sending, &text) == ANSWER_DONE
+          && seal_all(&sealing) == ANSWER_DONE, "a text is sealed");
     seal_end(&sealing);
-    check(outbox_drop_texts(outbox, text.id, text.id) == 0, "and taken");
+    check(outbox_drop_texts(outbox, text.id, text.id) == ANSWER_DONE, "and taken");
     end_rows(select);
-    check(outbox_set_next(outbox, &sending->of, sending->sealed - 1, sending->sealed) == 0
-          && outbox_commit(outbox) == 0, "it is committed");
+    check(outbox_set_next(outbox, &sending->of, sending->sealed - 1, sending->sealed) == ANSWER_DONE
+          && outbox_commit(outbox) == ANSWER_DONE, "it is committed");
     outbox_select_frames(outbox, "tom-7", sending->sealed - 1, 1);
-    check(outbox_next_frame(outbox, &number, &found, &len) == 1, "the frame is there");
+    check(outbox_next_frame(outbox, &number, &found, &len) == ANSWER_FOUND, "the frame is there");
     tell(LEFT, number, tail_of(found, len));
     outbox_end_frames(outbox);
     return number;
@@ -96,19 +96,21 @@ static void take_one(struct store *store, uint64_t number)
     const struct reached from = at(number - 1), to = at(number);
     const struct demand before = demands(number), after = demands(number + 1);
     const struct arrived text = { "tom-7", "", "", number, 0, (const uint8_t *)"hello", 5 };
-    check(store_begin(store, SHARD, &from, &to) == 0 && take_effect(store, &text) == 0
-          && store_advance(store, "tom-7", &before, &after) == 0 && store->commit(store) == 0, "a text is taken");
+    check(store_begin(store, SHARD, &from, &to) == ANSWER_DONE && take_effect(store, &text) == ANSWER_DONE
+          && store_advance(store, "tom-7", &before, &after) == ANSWER_DONE
+          && store->commit(store) == ANSWER_DONE, "a text is taken");
     tell(TOOK, number, 0);
 }
 
 static void carry_one(struct carrier *carrier, uint64_t number)
 {
     struct confirmed confirmed;
-    int tries, count = 0;
-    check(carrier->publish(carrier, SHARD, "tom-7", 0, number, (const uint8_t *)&number, sizeof number) == 0,
+    int tries;
+    size_t count = 0;
+    check(carrier->publish(carrier, SHARD, "tom-7", 0, number, (const uint8_t *)&number, sizeof number) == ANSWER_DONE,
           "a frame is published");
     for (tries = 0; count == 0 && tries < 10; tries++)
-        count = carrier->confirmed(carrier, &confirmed, 1);
+        (void)carrier->confirmed(carrier, &confirmed, 1, &count); /* after a fault none has come */
     check(count == 1 && confirmed.number == number, "and confirmed");
     tell(CONFIRMED, number, 0);
 }
@@ -122,8 +124,8 @@ static void work(uint64_t first, uint64_t end)
     struct store *store = store_open(store_path, SHARD);
     struct carrier *carrier = carrier_open(&options);
     uint64_t number, incarnation;
-    check(outbox_open(&outbox, outbox_path) == 0 && store != NULL && carrier != NULL, "all are opened");
-    check(carrier->make(carrier, SHARD, &incarnation) == 0, "there is a shard");
+    check(outbox_open(&outbox, outbox_path) == ANSWER_DONE && store != NULL && carrier != NULL, "all are opened");
+    check(carrier->make(carrier, SHARD, &incarnation) == ANSWER_DONE, "there is a shard");
     check(krbrelay_sending_load(&sending.end, first, first, 0, first, 0, 0) == KRBRELAY_OK, "its end begins");
     for (number = first; number < end; number++) {
         put_text(&outbox, number);
@@ -175,31 +177,32 @@ static void find_outbox(void)
     const uint8_t *frame = NULL;
     uint64_t number = 0, frames = 0, texts = 0;
     size_t len = 0;
-    check(outbox_open(&outbox, outbox_path) == 0 && outbox_load(&outbox, &of, &it) == 0, "the outbox opens");
+    check(outbox_open(&outbox, outbox_path) == ANSWER_DONE
+          && outbox_load(&outbox, &of, &it) == ANSWER_DONE, "the outbox opens");
     check(it.next > last_told(LEFT), "no number of a frame that left is free");
     outbox_select_frames(&outbox, of.name, 0, TEXTS + 1);
-    while (outbox_next_frame(&outbox, &number, &frame, &len) == 1) {
+    while (outbox_next_frame(&outbox, &number, &frame, &len) == ANSWER_FOUND) {
         check(number == ++frames, "frames are there in their order");
         check_left(number, frame, len);
     }
     outbox_end_frames(&outbox);
     check(frames + 1 == it.next, "each number that was used has its frame");
-    check(outbox_count_texts(&outbox, &texts) == 0 && texts + frames >= last_told(PUT),
+    check(outbox_count_texts(&outbox, &texts) == ANSWER_DONE && texts + frames >= last_told(PUT),
           "each text is there, or its frame is");
     outbox_close(&outbox);
 }
 
-static int note_demand(void *given, const char *session, const struct demand *demand)
+static enum answer note_demand(void *given, const char *session, const struct demand *demand)
 {
     (void)session;
     *(struct demand *)given = *demand;
-    return 0;
+    return ANSWER_DONE;
 }
 
-static int note_count(void *given, const char *const *columns)
+static enum answer note_count(void *given, const char *const *columns)
 {
     *(uint64_t *)given = strtoull(columns[0], NULL, 10);
-    return 0;
+    return ANSWER_DONE;
 }
 
 static void find_store(void)
@@ -209,9 +212,10 @@ static void find_store(void)
     struct reached reached;
     struct store *store = store_open(store_path, SHARD);
     uint64_t effects = 0;
-    check(store != NULL && store_reached(store, SHARD, &reached) == 0
-          && store_sessions(store, names, 1, note_demand, &demand) == 0
-          && store->ask(store, "SELECT CAST(count(*) AS TEXT) FROM effect", NULL, 0, note_count, &effects) == 0,
+    check(store != NULL && store_reached(store, SHARD, &reached) == ANSWER_DONE
+          && store_sessions(store, names, 1, note_demand, &demand) == ANSWER_DONE
+          && store->ask(store, "SELECT CAST(count(*) AS TEXT) FROM effect", NULL, 0, note_count,
+                        &effects) == ANSWER_DONE,
           "the store opens");
     check(demand.next > last_told(TOOK), "what was taken is taken");
     check(effects + 1 == demand.next && reached.offset == effects, "each text had its effect, and once");
@@ -224,12 +228,13 @@ static void find_carrier(void)
     struct carried list[TEXTS + 1];
     struct carrier *carrier = carrier_open(&options);
     uint64_t incarnation = 0, end = 0, i;
-    int count;
-    check(carrier != NULL && carrier->incarnation(carrier, SHARD, &incarnation, &end) == 0, "the carrier opens");
+    size_t count = 0;
+    check(carrier != NULL
+          && carrier->incarnation(carrier, SHARD, &incarnation, &end) == ANSWER_DONE, "the carrier opens");
     carrier->seek(carrier, SHARD, 0);
-    count = carrier->fetch(carrier, list, TEXTS + 1);
-    check(count >= 0 && (uint64_t)count >= last_told(CONFIRMED), "what was confirmed is there");
-    for (i = 0; i < (uint64_t)count; i++) {
+    check(carrier->fetch(carrier, list, TEXTS + 1, &count) == ANSWER_DONE
+          && count >= last_told(CONFIRMED), "what was confirmed is there");
+    for (i = 0; i < count; i++) {
         uint64_t number = i + 1;
         check(list[i].len == sizeof number && memcmp(list[i].frame, &number, sizeof number) == 0,
               "in its order, as it was");

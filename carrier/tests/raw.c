@@ -17,14 +17,15 @@ static double turns_all(struct carrier *c, unsigned shard, int frames, size_t le
     uint64_t began = nanoseconds();
     int sent = 0, confirmed = 0;
     while (confirmed < frames) {
-        int now, batch = sent + TAKEN;
+        int batch = sent + TAKEN;
+        size_t now = 0;
         while (sent < frames && sent < batch && sent - confirmed < WINDOW
-               && c->publish(c, shard, "raw", 0, (uint64_t)sent, frame, len) == 0)
+               && c->publish(c, shard, "raw", 0, (uint64_t)sent, frame, len) == ANSWER_DONE)
             sent++;
         if (sent - confirmed >= WINDOW || sent == frames)
             waiting_for(c->descriptor, milliseconds() + WAIT);
-        now = c->confirmed(c, list, WINDOW);
-        confirmed += now > 0 ? now : 0;
+        (void)c->confirmed(c, list, WINDOW, &now); /* after a fault none has come */
+        confirmed += (int)now;
     }
     return frames / ((double)(nanoseconds() - began) / 1e9);
 }
@@ -36,10 +37,11 @@ static double read_all(struct carrier *c, unsigned shard, int frames)
     int had = 0;
     c->seek(c, shard, 0);
     while (had < frames) {
-        int now = c->fetch(c, list, TAKEN);
-        if (now <= 0)
+        size_t now = 0;
+        (void)c->fetch(c, list, TAKEN, &now); /* after a fault none has come */
+        if (now == 0)
             waiting_for(c->descriptor, milliseconds() + WAIT);
-        had += now > 0 ? now : 0;
+        had += (int)now;
     }
     return frames / ((double)(nanoseconds() - began) / 1e9);
 }

@@ -76,7 +76,8 @@ static const struct opened streams[] = {
 enum { STREAMS = sizeof streams / sizeof *streams };
 static const char *unreadable = "";
 
-int __wrap_openings_find(struct store *store, struct kerberos *kerberos, const char *name, openings_take *take, void *given)
+enum answer __wrap_openings_find(struct store *store, struct kerberos *kerberos, const char *name, openings_take *take,
+                                 void *given)
 {
     size_t i;
     (void)store;
@@ -84,7 +85,7 @@ int __wrap_openings_find(struct store *store, struct kerberos *kerberos, const c
     for (i = 0; i < STREAMS; i++)
         if (strcmp(streams[i].name, name) == 0 && strcmp(unreadable, name) != 0)
             return take(given, &streams[i]);
-    return 0;
+    return ANSWER_DONE;
 }
 
 static int behind;              /* so often the store was said to have gone back */
@@ -126,10 +127,11 @@ static struct sessions *sessions_in(const char *folder)
 static void publish_as(struct carrier *carrier, const char *name, uint64_t number, const uint8_t *frame, size_t len)
 {
     static struct confirmed list[1];
+    size_t count;
     int tries;
-    check(carrier->publish(carrier, SHARD, name, 0, number, frame, len) == 0, "a frame is published");
+    check(carrier->publish(carrier, SHARD, name, 0, number, frame, len) == ANSWER_DONE, "a frame is published");
     for (tries = 0; tries < STEPS; tries++)
-        if (carrier->confirmed(carrier, list, 1) == 1)
+        if (carrier->confirmed(carrier, list, 1, &count) == ANSWER_DONE && count == 1)
             return;
     check(0, "it is confirmed");
 }
@@ -343,7 +345,7 @@ static void test_longest(struct shard *shard, struct carrier *carrier, sqlite3 *
 static void test_failing_statement(struct shard *shard, struct carrier *carrier, sqlite3 *store)
 {
     check(effects_choose("sql:INSERT INTO effect (session, number, part, text, client, stream)"
-                         " VALUES (:session, :number, :part, :text, :client, :stream)", 0) == 0, "it is a statement");
+                         " VALUES (:session, :number, :part, :text, :client, :stream)", 0) == ANSWER_DONE, "it is a statement");
     change(store, refuses);
     publish_texts(carrier, NUMBER + 5, TEXTS);
     fail(shard);
@@ -353,7 +355,7 @@ static void test_failing_statement(struct shard *shard, struct carrier *carrier,
     take(shard);
     check(told(store, "SELECT count(DISTINCT part) FROM effect WHERE number = 12") == TEXTS
           && told(store, "SELECT count(*) FROM effect WHERE number = 12") == TEXTS, "then each takes effect, once");
-    check(effects_choose(NULL, 0) == 0, "the effect is of effect.c again");
+    check(effects_choose(NULL, 0) == ANSWER_DONE, "the effect is of effect.c again");
 }
 
 /* The store is restored as it was some frames ago, below a receiver that goes on: it says so, and reads the frames again. */
@@ -462,12 +464,12 @@ static void test_streams(struct shard *shard, struct carrier *carrier, sqlite3 *
 /* ---- A carrier that takes no receipts for a while */
 
 static int takes_none, offered;
-static int (*acknowledge)(struct carrier *, unsigned, const struct carried *, size_t);
+static enum answer (*acknowledge)(struct carrier *, unsigned, const struct carried *, size_t);
 
-static int acknowledge_or_not(struct carrier *c, unsigned shard, const struct carried *list, size_t count)
+static enum answer acknowledge_or_not(struct carrier *c, unsigned shard, const struct carried *list, size_t count)
 {
     offered += takes_none;
-    return takes_none ? -1 : acknowledge(c, shard, list, count);
+    return takes_none ? ANSWER_FAULT : acknowledge(c, shard, list, count);
 }
 
 /* A receipt that didn't leave is owed still: it leaves without another frame. */
@@ -510,9 +512,9 @@ int main(int count, char **words)
     options.carrier.where = where;
     sessions = sessions_in(words[1]);
     carrier = carrier_open(&options.carrier);
-    check(carrier != NULL && carrier->make(carrier, SHARD, &incarnation) == 0, "a shard is made");
-    check(effects_choose(NULL, 0) == 0, "the effect is of effect.c");
-    check(shard_start(&shard) == 0, "it is opened");
+    check(carrier != NULL && carrier->make(carrier, SHARD, &incarnation) == ANSWER_DONE, "a shard is made");
+    check(effects_choose(NULL, 0) == ANSWER_DONE, "the effect is of effect.c");
+    check(shard_start(&shard) == ANSWER_DONE, "it is opened");
     shard_use(&shard, sessions);
     check(sqlite3_open(store + strlen("sqlite:"), &asked) == SQLITE_OK
           && sqlite3_busy_timeout(asked, 2000) == SQLITE_OK, "its store is opened beside it");

@@ -13,9 +13,9 @@ enum { SHARD = 900, LIST = 77, FIRST = 7, PAUSE = 200000, LOST = 20 };
 
 static const char name[] = "tom-7";
 static struct store *late;
-static int late_answer;
+static enum answer late_answer;
 
-static int effect(struct store *s, uint64_t number, const char *text, size_t len)
+static enum answer effect(struct store *s, uint64_t number, const char *text, size_t len)
 {
     const struct arrived it = { name, "", "", number, 0, (const uint8_t *)text, len };
     return take_effect(s, &it);
@@ -44,26 +44,26 @@ static struct demand demands(uint64_t number, uint64_t place)
 }
 
 /* One whole transaction with one text. */
-static int step(struct store *s, struct reached from, uint64_t to, uint64_t number)
+static enum answer step(struct store *s, struct reached from, uint64_t to, uint64_t number)
 {
     const struct demand before = demands(number, from.offset);
     const struct demand after = demands(number + 1, to);
     const struct reached end = at(to);
-    if (store_begin(s, SHARD, &from, &end) != 0 || effect(s, number, "hello", 5) != 0
-        || store_advance(s, name, &before, &after) != 0)
-        return -1;
+    if (store_begin(s, SHARD, &from, &end) != ANSWER_DONE || effect(s, number, "hello", 5) != ANSWER_DONE
+        || store_advance(s, name, &before, &after) != ANSWER_DONE)
+        return ANSWER_FAULT;
     return s->commit(s);
 }
 
-static int note(void *given, const char *session, const struct demand *demand)
+static enum answer note(void *given, const char *session, const struct demand *demand)
 {
     check(strcmp(session, name) == 0, "its name");
     *(struct demand *)given = *demand;
-    return 0;
+    return ANSWER_DONE;
 }
 
 /* What is stored of the session, of which it is one of two that are asked for. */
-static int read_session(struct store *s, struct demand *demand)
+static enum answer read_session(struct store *s, struct demand *demand)
 {
     const char *const names[] = { "nobody", name };
     demand->is_stored = 0;
@@ -75,7 +75,7 @@ static void stands(struct store *s, uint64_t offset, uint64_t number, uint32_t c
 {
     struct demand demand = { .next = FIRST };
     struct reached reached;
-    check(store_reached(s, SHARD, &reached) == 0 && read_session(s, &demand) == 0, "read");
+    check(store_reached(s, SHARD, &reached) == ANSWER_DONE && read_session(s, &demand) == ANSWER_DONE, "read");
     check(reached.offset == offset && reached.incarnation == (offset > 0 ? LIST : 0), what);
     check(demand.next == number && demand.closed == closed, what);
     check(demand.is_stored == (number != FIRST), "whether it is stored");
@@ -95,18 +95,18 @@ static void *step_late(void *given)
 static void test_fences(struct store *one, struct store *other)
 {
     stands(one, 0, FIRST, 0, "at first");
-    check(step(one, at(3), 5, 7) == 1, "a step of a shard that isn't there is fenced");
-    check(step(one, nothing, 5, 8) == 1, "a step of a session that isn't there is fenced");
+    check(step(one, at(3), 5, 7) == ANSWER_ELSEWHERE, "a step of a shard that isn't there is fenced");
+    check(step(one, nothing, 5, 8) == ANSWER_ELSEWHERE, "a step of a session that isn't there is fenced");
     stands(one, 0, FIRST, 0, "nothing of them is stored");
-    check(step(one, nothing, 5, 7) == 0, "a step");
+    check(step(one, nothing, 5, 7) == ANSWER_DONE, "a step");
     stands(other, 5, 8, 0, "it is stored");
-    check(step(other, nothing, 5, 7) == 1, "the same step again is fenced");
-    check(step(other, at(0), 6, 8) == 1, "a step from another offset is fenced");
-    check(step(other, (struct reached){ LIST + 1, 5 }, 6, 8) == 1, "and from another list");
-    check(step(other, at(5), 6, 7) == 1, "and of a session that is there as if it weren't");
-    check(step(other, at(5), 6, 9) == 1, "and from a number that isn't reached");
+    check(step(other, nothing, 5, 7) == ANSWER_ELSEWHERE, "the same step again is fenced");
+    check(step(other, at(0), 6, 8) == ANSWER_ELSEWHERE, "a step from another offset is fenced");
+    check(step(other, (struct reached){ LIST + 1, 5 }, 6, 8) == ANSWER_ELSEWHERE, "and from another list");
+    check(step(other, at(5), 6, 7) == ANSWER_ELSEWHERE, "and of a session that is there as if it weren't");
+    check(step(other, at(5), 6, 9) == ANSWER_ELSEWHERE, "and from a number that isn't reached");
     stands(one, 5, 8, 0, "nothing of them is stored");
-    check(step(other, at(5), 12, 8) == 0, "another goes on");
+    check(step(other, at(5), 12, 8) == ANSWER_DONE, "another goes on");
     stands(one, 12, 9, 0, "it is stored");
 }
 
@@ -121,9 +121,9 @@ static void test_compared(struct store *one)
         before.missed = i == 1 ? MISSED_EARLY : MISSED_NOTHING;
         before.at += i == 2;
         before.shard += i == 3;
-        check(store_begin(one, SHARD, &from, &to) == 0, "begin");
-        check(store_advance(one, name, &before, &after) == 0, "advance");
-        check(one->commit(one) == 1, "a session that is otherwise is fenced");
+        check(store_begin(one, SHARD, &from, &to) == ANSWER_DONE, "begin");
+        check(store_advance(one, name, &before, &after) == ANSWER_DONE, "advance");
+        check(one->commit(one) == ANSWER_ELSEWHERE, "a session that is otherwise is fenced");
     }
     stands(one, 12, 9, 0, "nothing of them is stored");
 }
@@ -137,20 +137,20 @@ static void test_other_list(struct store *one, struct store *other)
     struct demand found = { 0 }, reset = after;
     struct reached reached;
     reset.at = reset.missed = 0;
-    check(store_begin(one, SHARD, &from, &from) == 0 && store_advance(one, name, &fine, &after) == 0
-              && one->commit(one) == 0, "it misses something");
-    check(store_begin(one, SHARD, &from, &to) == 0 && one->commit(one) == 0, "another list");
-    check(store_reached(other, SHARD, &reached) == 0 && read_session(other, &found) == 0, "read");
+    check(store_begin(one, SHARD, &from, &from) == ANSWER_DONE && store_advance(one, name, &fine, &after) == ANSWER_DONE
+              && one->commit(one) == ANSWER_DONE, "it misses something");
+    check(store_begin(one, SHARD, &from, &to) == ANSWER_DONE && one->commit(one) == ANSWER_DONE, "another list");
+    check(store_reached(other, SHARD, &reached) == ANSWER_DONE && read_session(other, &found) == ANSWER_DONE, "read");
     check(reached.incarnation == LIST + 1 && reached.offset == 3, "it is stored");
     check(found.at == 0 && found.missed == MISSED_NOTHING && found.next == 9, "its place");
-    check(store_begin(one, SHARD, &to, &from) == 0 && store_advance(one, name, &reset, &fine) == 0
-              && one->commit(one) == 0, "back again");
+    check(store_begin(one, SHARD, &to, &from) == ANSWER_DONE && store_advance(one, name, &reset, &fine) == ANSWER_DONE
+              && one->commit(one) == ANSWER_DONE, "back again");
 }
 
 static void test_rollback(struct store *one, struct store *other)
 {
     const struct reached from = at(12), to = at(20);
-    check(store_begin(one, SHARD, &from, &to) == 0 && effect(one, 9, "lost", 4) == 0, "begin");
+    check(store_begin(one, SHARD, &from, &to) == ANSWER_DONE && effect(one, 9, "lost", 4) == ANSWER_DONE, "begin");
     one->rollback(one);
     stands(other, 12, 9, 0, "what is given up isn't stored");
 }
@@ -161,18 +161,19 @@ static uint64_t test_two(struct store *one, struct store *other)
     const struct demand before = demands(9, 12), after = demands(10, 14);
     const struct reached from = at(12), to = at(14);
     pthread_t thread;
-    int answer;
+    enum answer answer;
     late = other;
-    check(store_begin(one, SHARD, &from, &to) == 0, "begin");
-    check(effect(one, 9, "", 0) == 0, "effect of no bytes");
-    check(store_advance(one, name, &before, &after) == 0, "advance");
+    check(store_begin(one, SHARD, &from, &to) == ANSWER_DONE, "begin");
+    check(effect(one, 9, "", 0) == ANSWER_DONE, "effect of no bytes");
+    check(store_advance(one, name, &before, &after) == ANSWER_DONE, "advance");
     check(pthread_create(&thread, NULL, step_late, NULL) == 0, "thread");
     usleep(PAUSE);
     answer = one->commit(one);
     pthread_join(thread, NULL);
-    check(answer >= 0 && answer + late_answer == 1, "of two at once one is fenced");
-    stands(one, answer == 0 ? 14 : 15, 10, 0, "the other is stored");
-    return answer == 0 ? 14 : 15;
+    check((answer == ANSWER_DONE && late_answer == ANSWER_ELSEWHERE)
+              || (answer == ANSWER_ELSEWHERE && late_answer == ANSWER_DONE), "of two at once one is fenced");
+    stands(one, answer == ANSWER_DONE ? 14 : 15, 10, 0, "the other is stored");
+    return answer == ANSWER_DONE ? 14 : 15;
 }
 
 /* A receiver whose machine is gone in a transaction: it answers nothing any more, and its
@@ -183,23 +184,24 @@ static void test_lost(const char *where)
     const struct reached to = at(5);
     struct store *lost = store_open(where, SHARD + 1), *other = store_open(where, SHARD + 1);
     time_t began = time(NULL);
-    int answer = -1, tries;
+    enum answer answer = ANSWER_FAULT;
+    int tries;
     check(lost != NULL && other != NULL, "open");
-    check(store_begin(lost, SHARD + 1, &nothing, &to) == 0, "begin");
-    check(effect(lost, 1, large, sizeof large) == 0, "effect");
+    check(store_begin(lost, SHARD + 1, &nothing, &to) == ANSWER_DONE, "begin");
+    check(effect(lost, 1, large, sizeof large) == ANSWER_DONE, "effect");
     usleep(5 * PAUSE);
-    for (tries = 0; answer != 0 && time(NULL) - began < LOST; tries++) {
+    for (tries = 0; answer != ANSWER_DONE && time(NULL) - began < LOST; tries++) {
         answer = store_begin(other, SHARD + 1, &nothing, &to);
-        if (answer == 0)
+        if (answer == ANSWER_DONE)
             answer = other->commit(other);
-        if (answer == 0)
+        if (answer == ANSWER_DONE)
             break;
         other->close(other); /* as shard.c does */
         other = store_open(where, SHARD + 1);
         check(other != NULL, "open again");
     }
     check(tries > 0, "the one that is lost has locks");
-    check(answer == 0, "they are let go");
+    check(answer == ANSWER_DONE, "they are let go");
     other->close(other);
     lost->close(lost);
 }
@@ -221,9 +223,9 @@ int main(int count, char **words)
     test_rollback(one, other);
     from = at(test_two(one, other));
     before = demands(10, from.offset);
-    check(store_begin(one, SHARD, &from, &to) == 0, "begin");
-    check(store_advance(one, name, &before, &end) == 0, "the close");
-    check(one->commit(one) == 0, "commit");
+    check(store_begin(one, SHARD, &from, &to) == ANSWER_DONE, "begin");
+    check(store_advance(one, name, &before, &end) == ANSWER_DONE, "the close");
+    check(one->commit(one) == ANSWER_DONE, "commit");
     stands(other, 16, 11, 1, "closed");
     one->close(one);
     other->close(other);

@@ -38,12 +38,12 @@ static int write_down(const struct arrived *it)
     fprintf(file, "\\n");
     return fclose(file) == 0 ? 0 : -1;
 }
-int take_effect(struct store *store, const struct arrived *it)
+enum answer take_effect(struct store *store, const struct arrived *it)
 {
     const struct value values[] = { { VALUE_TEXT, 0, it->session, strlen(it->session) },
                                     { VALUE_NUMBER, it->number, NULL, 0 }, { VALUE_NUMBER, it->part, NULL, 0 },
                                     { VALUE_BYTES, 0, it->text, it->len } };
-    return write_down(it) != 0 ? -1
+    return write_down(it) != 0 ? ANSWER_FAULT
         : store_run(store, "INSERT INTO mine (session, number, part, text) VALUES ($1, $2, $3, $4)", values, 4);
 }
 """
@@ -199,7 +199,7 @@ def compiled(ends):
     with open(f"{ends.folder}/mine.c", "w", encoding="ascii") as file:
         file.write(OBJECT)
     made = f"{ends.folder}/mine.so"
-    folders = (f"{SOURCES}/effects", f"{SOURCES}/stores", f"{SOURCES}/sessions", f"{ends.prefix}/include")
+    folders = (*(f"{SOURCES}/{it}" for it in ("base", "effects", "stores", "sessions")), f"{ends.prefix}/include")
     subprocess.run([*c_tools.c_compiler(), "-shared", "-fPIC", *(f"-I{it}" for it in folders),
                     f'-DWRITTEN="{ends.folder}/written"', f"{ends.folder}/mine.c", "-o", made], check=True)
     return f"object:{made}"
