@@ -1,4 +1,4 @@
-/* What came of a call: one list for outbox, stores, carriers, effects and sealing. Each call says which of them it
+/* The answers of calls: one list for outbox, stores, carriers, effects and sealing. Each call says which of them it
  * answers, if it isn't DONE or FAULT alone. */
 #ifndef ANSWER_H
 #define ANSWER_H

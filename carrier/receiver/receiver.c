@@ -120,7 +120,7 @@ static int is_answered(void)
         if (is_wanted(shard) && threads_state(shard) != SHARD_SERVED)
             break;
     }
-    return !look->is_away(look) && look->incarnation(look, shard, &list, &end) == ANSWER_DONE;
+    return !look->is_away(look) && look->find_list(look, shard, &list, &end) == ANSWER_DONE;
 }
 
 /* Looks whether it is cut off from the carrier, where another receiver may not be: 1 if that has changed. */

@@ -43,13 +43,13 @@ static enum krbrelay_answer open_any(struct shard *s, struct receiving *of, cons
     const struct krbrelay_demand any = { 0 };
     const struct krbrelay_moment now = read_clock();
     size_t size;
-    return krbrelay_opener_open(&of->opener, it->frame, it->len, &any, &now, s->bytes + s->together.used,
-                                KRBRELAY_FRAME_LIMIT - s->together.used, &size, carried);
+    return krbrelay_opener_open(&of->opener, it->frame, it->len, &any, &now, s->bytes + s->call.used,
+                                KRBRELAY_FRAME_LIMIT - s->call.used, &size, carried);
 }
 
 /* Opens the frame at any number, time and addresses, and finds its number, unless it is refused or tells none. After a
  * fault, such as out of memory, nothing is known of it. The session's opener is made when it is first needed. */
-static enum answer look(struct shard *s, struct receiving *of, const struct carried *it, uint64_t *number)
+static enum answer open_at_any_number(struct shard *s, struct receiving *of, const struct carried *it, uint64_t *number)
 {
     struct krbrelay_carried carried;
     enum krbrelay_answer answer = open_any(s, of, it, &carried);
@@ -89,16 +89,16 @@ static void goes_on(struct shard *s, struct receiving *it)
 /* What the store says of it for who looks. */
 static void note_missed(struct shard *s, struct receiving *of, uint32_t missed)
 {
-    if (of->now.missed != missed)
+    if (of->drafted.missed != missed)
         note_changed(s, of);
-    of->now.missed = missed;
+    of->drafted.missed = missed;
 }
 
 static void tell_early(struct shard *s, const struct receiving *of, const struct carried *it, uint64_t number)
 {
     log_fact(LEVEL_WARNING, "frame_early", field_text("session", it->session),
              field_number("shard", s->number), field_number("offset", it->offset),
-             field_number("number", number), field_number("demanded", of->drafted.number),
+             field_number("number", number), field_number("demanded", of->end_row.number),
              field_text("text", "it has to come again after the demanded one, which is asked for"));
 }
 
@@ -127,9 +127,9 @@ static enum answer take_seen(struct shard *s, struct receiving *of, const struct
     if (answer == KRBRELAY_OK)
         answer = krbrelay_shard_session(&s->ends, of->place, &end);
     if (answer == KRBRELAY_OK)
-        of->drafted = end.drafted;
+        of->end_row = end.drafted;
     else
-        report_answer("frame_unopened", it->session, of->drafted.number, answer);
+        report_answer("frame_unopened", it->session, of->end_row.number, answer);
     return answer == KRBRELAY_OK ? ANSWER_DONE : ANSWER_FAULT;
 }
 
@@ -154,7 +154,7 @@ static void note_unaccepted(struct shard *s, struct receiving *of, const struct 
         list_add(&s->standing, of, &of->is_standing);
 }
 
-/* Finds the number of a refused frame, if it is the session's, as `look`. One that passes all checks but the number's
+/* Finds the number of a refused frame, if it is the session's, as open_at_any_number. One that passes all checks but the number's
  * was opened already. */
 static enum answer find_number(struct shard *s, struct receiving *of, const struct carried *it,
                                enum krbrelay_answer answer, uint64_t *number)
@@ -162,7 +162,7 @@ static enum answer find_number(struct shard *s, struct receiving *of, const stru
     if (answer == KRBRELAY_AFTER_CLOSE)
         return ANSWER_DONE;
     if (answer != KRBRELAY_BADORDER || *number == UINT64_MAX)
-        return look(s, of, it, number);
+        return open_at_any_number(s, of, it, number);
     of->has_opened = 1;
     return ANSWER_FOUND;
 }
@@ -175,7 +175,7 @@ static enum answer take_refusal(struct shard *s, struct receiving *of, const str
     uint32_t outcome = 0;
     enum answer opens;
     if (!krbrelay_is_refusal(answer)) {
-        report_answer("frame_unopened", it->session, of->drafted.number, answer);
+        report_answer("frame_unopened", it->session, of->end_row.number, answer);
         return ANSWER_FAULT;
     }
     opens = find_number(s, of, it, answer, &number);
@@ -220,7 +220,7 @@ static enum answer put_aside(struct shard *s, const struct arrived *it)
     if (shard_begin_late(s) != ANSWER_DONE || effects_put_aside(s->store, s->refusals, it) != ANSWER_DONE)
         return ANSWER_FAULT;
     s->is_last |= effects_are_outside();
-    s->drafted.aside++;
+    s->counted.aside++;
     return ANSWER_DONE;
 }
 
@@ -233,7 +233,7 @@ static enum answer take_text(struct shard *s, const struct arrived *it, int is_a
     if (effects_are_outside())
         service_allow(s->number, EFFECT_SECONDS);
     answer = effects_take(s->store, it, is_alone, &s->refusals);
-    s->drafted.texts += answer == ANSWER_DONE;
+    s->counted.texts += answer == ANSWER_DONE;
     return answer;
 }
 
@@ -255,7 +255,7 @@ static enum answer take_effects(struct shard *s, const struct receiving *of, con
                                 const uint8_t *bytes, int is_alone)
 {
     struct arrived it = { of->of.name, of->opened != NULL ? of->opened->client : "",
-                          of->opened != NULL ? of->opened->stream : "", of->drafted.number, 0, bytes, taken->size };
+                          of->opened != NULL ? of->opened->stream : "", of->end_row.number, 0, bytes, taken->size };
     unsigned answered = answered_parts(s, &it);
     size_t at = 0;
     enum answer answer = ANSWER_DONE;
@@ -270,7 +270,7 @@ static enum answer take_effects(struct shard *s, const struct receiving *of, con
     }
     if (answer != ANSWER_DONE && effects_are_outside())
         note_answered(s, &it);
-    s->drafted.bytes += taken->size;
+    s->counted.bytes += taken->size;
     return answer;
 }
 
@@ -288,13 +288,13 @@ static enum answer take_accepted(struct shard *s, struct receiving *of, const st
         return answer;
     if (take_seen(s, of, it, &seen, &outcome) != ANSWER_DONE || outcome != KRBRELAY_OUTCOME_ACCEPTED)
         return ANSWER_FAULT; /* what the store has, and what was taken since, is where both are */
-    of->now.at = it->offset;
-    of->now.missed = MISSED_NOTHING;
+    of->drafted.at = it->offset;
+    of->drafted.missed = MISSED_NOTHING;
     of->has_opened = 1;
     note_changed(s, of);
     goes_on(s, of);
-    s->drafted.accepted++;
-    s->drafted.closed += seen.is_close;
+    s->counted.accepted++;
+    s->counted.closed += seen.is_close;
     return ANSWER_DONE;
 }
 
@@ -309,10 +309,10 @@ static enum answer make_receiver(const struct shard *s, struct receiving *it)
     if (it->is_made)
         return ANSWER_DONE;
     answer = krbrelay_receiver_new(&it->receiver, of->etype, of->key, of->key_len, &expect,
-                                   it->drafted.number, it->drafted.closed);
+                                   it->end_row.number, it->end_row.closed);
     it->is_made = answer == KRBRELAY_OK;
     if (!it->is_made)
-        report_answer("receiver_unmade", of->name, it->drafted.number, answer);
+        report_answer("receiver_unmade", of->name, it->end_row.number, answer);
     return it->is_made ? ANSWER_DONE : ANSWER_FAULT;
 }
 
@@ -329,7 +329,7 @@ static enum answer take_opening(struct shard *s, struct receiving *of, const str
         return ANSWER_DONE;
     }
     s->counts.opened++;
-    of->now.at = it->offset;
+    of->drafted.at = it->offset;
     note_changed(s, of);
     log_fact(LEVEL_INFO, "session_opened", field_text("session", of->of.name),
              field_number("shard", s->number), field_text("client", of->opened->client),
@@ -344,7 +344,7 @@ static enum answer take_before_turn(struct shard *s, struct receiving *of, const
     const struct krbrelay_seen seen = { .has_opened = 1, .opened = of->of.first };
     struct receiving *before = NULL;
     uint32_t outcome = 0;
-    if (shard_find(s, of->opened->before, &before) == ANSWER_FOUND && before->turn == s->turn)
+    if (shard_find(s, of->opened->before, &before) == ANSWER_FOUND && before->loading == s->loading)
         note_changed(s, before);
     s->counts.early++;
     log_fact(LEVEL_WARNING, "frame_early", field_text("session", it->session),
@@ -361,7 +361,7 @@ static enum answer take_before_turn(struct shard *s, struct receiving *of, const
 /* Whether nothing of a session by a ticket took effect, and its turn hasn't come. */
 static int is_before_turn(struct shard *s, const struct receiving *of)
 {
-    return of->opened != NULL && of->drafted.number == of->of.first
+    return of->opened != NULL && of->end_row.number == of->of.first
            && shard_judge(s, of) != KRBRELAY_JUDGED_BEGINS;
 }
 
@@ -388,9 +388,9 @@ static int find_together(const struct shard *s, int first, int end, struct krbre
 }
 
 /* Takes them. Where the call fails, that is the first one's answer, and no other was taken. */
-static void take_together(struct shard *s, struct receiving *of, int first, int end)
+static void take_call(struct shard *s, struct receiving *of, int first, int end)
 {
-    struct together *it = &s->together;
+    struct call *it = &s->call;
     struct krbrelay_frame list[KRBRELAY_MOST_FRAMES];
     enum krbrelay_answer answer;
     int i;
@@ -429,15 +429,15 @@ static enum answer take(struct shard *s, struct receiving *of, int place, int en
         return fault_unless(take_before_turn(s, of, it));
     if (make_receiver(s, of) != ANSWER_DONE)
         return ANSWER_FAULT;
-    if (place - s->together.first >= s->together.count)
-        take_together(s, of, place, end);
-    taken = &s->together.taken[place - s->together.first];
+    if (place - s->call.first >= s->call.count)
+        take_call(s, of, place, end);
+    taken = &s->call.taken[place - s->call.first];
     answer = (enum krbrelay_answer)taken->answer;
     done = answer == KRBRELAY_OK ? ANSWER_DONE : take_refusal(s, of, it, answer, taken->number);
     s->counts.opening += lap(s);
     if (answer != KRBRELAY_OK)
         return fault_unless(done);
-    return take_accepted(s, of, it, taken, s->bytes + s->together.at[place - s->together.first], is_alone);
+    return take_accepted(s, of, it, taken, s->bytes + s->call.at[place - s->call.first], is_alone);
 }
 
 enum answer shard_take(struct shard *s, int place, int end, int is_alone)
@@ -451,9 +451,9 @@ enum answer shard_take(struct shard *s, int place, int end, int is_alone)
 
 void shard_leave(struct shard *s, int place)
 {
-    if (place - s->together.first < s->together.count)
-        s->of_frames[s->together.first]->is_made = 0; /* the receiver is past what is taken */
-    s->together.first = s->together.count = 0;
+    if (place - s->call.first < s->call.count)
+        s->of_frames[s->call.first]->is_made = 0; /* the receiver is past what is taken */
+    s->call.first = s->call.count = 0;
 }
 
 /* ---- Steps */
@@ -525,15 +525,15 @@ static int fetch(struct shard *s)
     size_t count = 0;
     enum answer answer = s->carrier->fetch(s->carrier, s->frames, s->options->batch, &count);
     if (answer == ANSWER_DONE)
-        s->answered = nanoseconds();
+        s->answered_at = nanoseconds();
     else
         s->rests = milliseconds() + WAIT;
     if (answer == ANSWER_CHANGED)
         load_again(s);
     if (count == 0)
         return 0;
-    s->looked = nanoseconds();
-    s->counts.fetching += s->looked - began;
+    s->looked_at = nanoseconds();
+    s->counts.fetching += s->looked_at - began;
     s->counts.frames += (unsigned long)count;
     if (s->frames[0].offset <= s->reading.read.offset) {
         load_again(s); /* they aren't what follows */
@@ -546,30 +546,30 @@ static int fetch(struct shard *s)
 
 /* Nothing has come for a while: whether the store has what is known of it, and the list is still the one that is read, and
  * wasn't cut off, as where nodes have lost what they had. Else it is loaded again, and read from where krb_receiver says. */
-static void look_at_list(struct shard *s)
+static void check_list(struct shard *s)
 {
     uint64_t list = 0, end = 0;
     uint32_t is_elsewhere = 0, found = KRBRELAY_FOUND_SAME;
     struct reached reached;
-    s->looked = nanoseconds();
+    s->looked_at = nanoseconds();
     if (store_reached(s->store, s->number, &reached) != ANSWER_DONE) {
         lose_store(s);
         return;
     }
-    if (krbrelay_shard_found(&s->ends, reached.incarnation, reached.offset, &found) != KRBRELAY_OK
+    if (krbrelay_shard_found(&s->ends, reached.list, reached.offset, &found) != KRBRELAY_OK
         || found != KRBRELAY_FOUND_SAME)
         load_again(s);
-    if (s->carrier->incarnation(s->carrier, s->number, &list, &end) == ANSWER_DONE && list != 0
+    if (s->carrier->find_list(s->carrier, s->number, &list, &end) == ANSWER_DONE && list != 0
         && krbrelay_shard_listed(&s->ends, list, end, &is_elsewhere) == KRBRELAY_OK && is_elsewhere)
         load_again(s);
 }
 
 /* Each second: a store whose file was replaced is opened again, so that nothing is stored where nobody looks. */
-static void look_at_store(struct shard *s)
+static void check_store(struct shard *s)
 {
-    if (s->store == NULL || nanoseconds() - s->looked_at_store < SECOND)
+    if (s->store == NULL || nanoseconds() - s->store_checked_at < SECOND)
         return;
-    s->looked_at_store = nanoseconds();
+    s->store_checked_at = nanoseconds();
     if (!s->store->is_there(s->store))
         lose_store(s);
 }
@@ -611,8 +611,8 @@ static int end_step(struct shard *s, struct transacted ended, int count)
 static int take_some(struct shard *s)
 {
     int count = s->next < s->fetched ? s->fetched - s->next : fetch(s);
-    if (count == 0 && s->is_loaded && nanoseconds() - s->looked > QUIET)
-        look_at_list(s);
+    if (count == 0 && s->is_loaded && nanoseconds() - s->looked_at > QUIET)
+        check_list(s);
     return count == 0 ? 0 : end_step(s, shard_transact(s), count);
 }
 
@@ -623,7 +623,7 @@ static int step(struct shard *s)
     uint64_t at = 0;
     enum answer answer;
     forget_ended(s);
-    look_at_store(s);
+    check_store(s);
     shard_pay(s);
     if (krbrelay_shard_turn(&s->ends, milliseconds(), &turn, &at) != KRBRELAY_OK)
         return -1; /* never: shard_start made the shard */
@@ -646,7 +646,7 @@ static uint64_t earlier(uint64_t one, uint64_t other)
 /* When there is something to do after a step in which nothing came. */
 static uint64_t next_time(struct shard *s)
 {
-    uint64_t look = (s->looked + QUIET) / MILLISECOND + 1, receipt = krbrelay_shard_next_time(&s->ends);
+    uint64_t look = (s->looked_at + QUIET) / MILLISECOND + 1, receipt = krbrelay_shard_next_time(&s->ends);
     return earlier(earlier(look, receipt), s->carrier->due(s->carrier));
 }
 

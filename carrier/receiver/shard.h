@@ -45,9 +45,9 @@ struct receiving {
     struct krbrelay_receiver receiver; /* made with the first frame after loading */
     struct krbrelay_opener opener; /* looks at what was refused; made when it is first needed */
     uint32_t place;                /* among the sessions of krb_receiver's shard, */
-    struct krbrelay_row drafted;   /* of which this is what the transaction under way would store */
-    struct demand stored, now;     /* what the store has, and what it shall have, */
-    unsigned long turn;            /* as of this turn of the shard's loading */
+    struct krbrelay_row end_row;   /* of which this is what the transaction under way would store */
+    struct demand stored, drafted; /* what the store has, and has after this transaction, */
+    unsigned long loading;         /* as of this loading of the shard */
     int is_made;                   /* the receiver is what is stored, and what followed */
     int has_opened;                /* a frame opened: the key is right */
     int is_changed;                /* it is in the list of those that this transaction moves, */
@@ -76,14 +76,14 @@ struct shard_counts {
 };
 
 /* Frames of one session that were taken in one call, which come one after another. */
-struct together {
+struct call {
     int first, count;              /* which of the transaction's frames */
     struct krbrelay_taken taken[KRBRELAY_MOST_FRAMES];
     size_t at[KRBRELAY_MOST_FRAMES], used; /* where in the shard's bytes each record begins, and the last ends */
 };
 
 /* What a transaction has done, which counts once it is stored. */
-struct drafted { unsigned long texts, accepted, aside, closed; unsigned long long bytes; };
+struct counted { unsigned long texts, accepted, aside, closed; unsigned long long bytes; };
 
 /* So many texts of this frame were answered by a command, and aren't stored: they aren't given to it again. */
 struct done_parts { char session[CARRIER_NAME]; uint64_t number; unsigned parts; };
@@ -101,7 +101,7 @@ struct shard {
     size_t count;                  /* so many there are, and these lists have room for: */
     struct list members;           /* those that `ends` has, by their places: whoever forgets them has it loaded again, */
     struct list changed, standing;
-    struct drafted drafted;        /* what this transaction has done, */
+    struct counted counted;        /* what this transaction has done, */
     int is_begun;                  /* whether the store's is open, */
     uint64_t moved_to;             /* up to which offset it moves the shard, */
     int place;                     /* and which frame it is at */
@@ -109,7 +109,7 @@ struct shard {
     struct done_parts done_parts;
     size_t ended;                  /* so many of them are closed */
     struct list asked;             /* those of which the store is asked, */
-    struct list news;              /* and those whose openings this transaction takes */
+    struct list opened_now;        /* and those whose openings this transaction takes */
     struct carried *frames;        /* those of the last fetch, */
     int next, fetched;             /* of which those from `next` on weren't taken yet */
     struct receiving **of_frames;  /* of each frame the session, or NULL */
@@ -118,17 +118,17 @@ struct shard {
     char unknown[CARRIER_NAME];    /* the last name that the store was asked for in vain */
     struct krbrelay_moment moment; /* when this transaction's frames are taken */
     uint64_t lap;                  /* up to when its time was counted */
-    uint64_t answered;             /* when the carrier answered last, */
-    uint64_t looked;               /* when a frame came last, or the list was looked at */
-    uint64_t looked_at_store, shown; /* when that was done last */
+    uint64_t answered_at;          /* when the carrier answered last, */
+    uint64_t looked_at;            /* when a frame came last, or the list was checked, */
+    uint64_t store_checked_at, shown_at; /* and the store, and when it was shown last */
     uint64_t rests;                /* nothing but receipts before this moment, in milliseconds */
     struct krbrelay_pause unlisted; /* after a look for a list that isn't there */
     int hears;                     /* what comes is taken at once, since it doesn't rest */
-    unsigned long turn;            /* so often it was loaded */
+    unsigned long loading;         /* so often it was loaded */
     int is_loaded;                 /* what is read follows what is stored, as `ends` said last */
     size_t open;                   /* if it is asked for, so many sessions aren't closed */
     uint8_t *bytes;                /* of the records of these frames, and of a frame that is looked at */
-    struct together together;
+    struct call call;
     struct shard_counts counts;
 };
 

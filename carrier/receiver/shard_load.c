@@ -31,7 +31,7 @@ enum { LISTS = 5 };
 /* Its lists, in each of which all sessions have room. */
 static void lists_of(struct shard *s, struct list *lists[LISTS])
 {
-    struct list *const all[LISTS] = { &s->members, &s->changed, &s->standing, &s->asked, &s->news };
+    struct list *const all[LISTS] = { &s->members, &s->changed, &s->standing, &s->asked, &s->opened_now };
     memcpy(lists, all, sizeof all);
 }
 
@@ -98,9 +98,9 @@ void shard_forget(struct shard *s)
 /* What is known of the session isn't of this turn. */
 static void ask(struct shard *s, struct receiving *it)
 {
-    if (it->turn == s->turn)
+    if (it->loading == s->loading)
         return;
-    it->turn = s->turn;
+    it->loading = s->loading;
     it->stored = (struct demand){ .next = it->of.first, .shard = (int32_t)s->number,
                                   .history = { .is_known = 1 } }; /* of no frames */
     it->is_made = 0;
@@ -113,7 +113,7 @@ static enum answer ask_before(struct shard *s, const struct receiving *it)
     struct receiving *before;
     if (it->opened == NULL || shard_find_before(s, it, &before) != ANSWER_DONE)
         return it->opened == NULL ? ANSWER_DONE : ANSWER_FAULT;
-    if (before == NULL || before->turn == s->turn)
+    if (before == NULL || before->loading == s->loading)
         return ANSWER_DONE;
     ask(s, before);
     return ANSWER_DONE;
@@ -157,12 +157,12 @@ static enum answer place_session(struct shard *s, struct receiving *it)
         return ANSWER_FAULT;
     }
     s->members.at[s->members.count++] = it;
-    it->drafted = row;
-    it->now = it->stored;
+    it->end_row = row;
+    it->drafted = it->stored;
     if (!it->stored.is_stored || it->stored.shard != (int32_t)s->number) {
-        it->now.at = 0;
-        it->now.shard = (int32_t)s->number;
-        it->now.missed = MISSED_NOTHING;
+        it->drafted.at = 0;
+        it->drafted.shard = (int32_t)s->number;
+        it->drafted.missed = MISSED_NOTHING;
     }
     return ANSWER_DONE;
 }
@@ -187,9 +187,9 @@ static enum answer ask_store(struct shard *s)
  * frame, since its row may come, or its key be readable, after this session was loaded. */
 static enum answer ask_for(struct shard *s, struct receiving *it)
 {
-    int is_new = it->turn != s->turn;
+    int is_new = it->loading != s->loading;
     ask(s, it);
-    return is_new || it->drafted.number == it->of.first ? ask_before(s, it) : ANSWER_DONE;
+    return is_new || it->end_row.number == it->of.first ? ask_before(s, it) : ANSWER_DONE;
 }
 
 enum answer shard_load_frames(struct shard *s, int first, int end)
@@ -223,10 +223,10 @@ enum answer shard_load_frames(struct shard *s, int first, int end)
 /* ---- Loading */
 
 /* All that is known of sessions is of an earlier turn. */
-static void begin_turn(struct shard *s)
+static void begin_loading(struct shard *s)
 {
     size_t i;
-    s->turn++;
+    s->loading++;
     for (i = 0; i < s->changed.count; i++)
         ((struct receiving *)s->changed.at[i])->is_changed = 0;
     s->changed.count = s->members.count = 0;
@@ -274,8 +274,8 @@ static void tell_behind(struct shard *s, const struct reached *reached)
 {
     const struct krbrelay_spot *known = &s->reading.stored;
     uint32_t found = KRBRELAY_FOUND_SAME;
-    if (krbrelay_shard_found(&s->ends, reached->incarnation, reached->offset, &found) == KRBRELAY_OK
-        && found == KRBRELAY_FOUND_BEHIND && reached->incarnation == known->list)
+    if (krbrelay_shard_found(&s->ends, reached->list, reached->offset, &found) == KRBRELAY_OK
+        && found == KRBRELAY_FOUND_BEHIND && reached->list == known->list)
         log_fact(LEVEL_ERROR, "store_behind", field_number("shard", s->number), field_number("known", known->offset),
                  field_number("offset", reached->offset),
                  field_text("text", "the store has gone back: the shard is read again from there, and what took effect since is"
@@ -288,7 +288,7 @@ static enum answer place_reading(struct shard *s, const struct reached *reached,
     const struct krbrelay_reading *it = &s->reading;
     uint32_t is_elsewhere = 0;
     tell_behind(s, reached);
-    if (krbrelay_shard_loaded(&s->ends, reached->incarnation, reached->offset) != KRBRELAY_OK
+    if (krbrelay_shard_loaded(&s->ends, reached->list, reached->offset) != KRBRELAY_OK
         || krbrelay_shard_listed(&s->ends, list, end, &is_elsewhere) != KRBRELAY_OK || shard_look(s) != ANSWER_DONE)
         return ANSWER_FAULT;
     if (is_elsewhere && it->stored.list != 0)
@@ -305,11 +305,11 @@ enum answer shard_load(struct shard *s)
     struct reached reached;
     if (s->store == NULL && (s->store = store_open(s->options->store, s->number)) == NULL)
         return ANSWER_FAULT;
-    begin_turn(s);
+    begin_loading(s);
     if (store_reached(s->store, s->number, &reached) != ANSWER_DONE
         || (s->options->until_closed && count_open(s) != ANSWER_DONE))
         return ANSWER_FAULT;
-    if (s->carrier->incarnation(s->carrier, s->number, &list, &end) != ANSWER_DONE || list == 0)
+    if (s->carrier->find_list(s->carrier, s->number, &list, &end) != ANSWER_DONE || list == 0)
         return ANSWER_LATER;
     if (s->kerberos != NULL && !s->has_wrapped) /* without the keytab others go on */
         s->has_wrapped = openings_wrap_anew(s->store, s->kerberos, s->number) == ANSWER_DONE;

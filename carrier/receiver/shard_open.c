@@ -83,14 +83,14 @@ static struct krbrelay_head head_before(struct shard *s, const struct receiving 
 {
     struct krbrelay_head head = { 0 };
     struct receiving *before;
-    if (shard_find(s, of->opened->before, &before) != ANSWER_FOUND || before->turn != s->turn
+    if (shard_find(s, of->opened->before, &before) != ANSWER_FOUND || before->loading != s->loading
         || before->opened == NULL || !is_same_stream(before->opened, of->opened))
         return head;
     *is_known = before->stored.history.is_known;
     head.turn = 1;
-    head.number = before->drafted.number;
-    head.closed = before->drafted.closed;
-    memcpy(head.history, before->drafted.history, sizeof head.history);
+    head.number = before->end_row.number;
+    head.closed = before->end_row.closed;
+    memcpy(head.history, before->end_row.history, sizeof head.history);
     return head;
 }
 
@@ -142,8 +142,8 @@ static enum answer refuse(struct shard *s, const struct carried *it, enum openin
 static enum opening_answer judge_place(struct shard *s, const struct opened *it)
 {
     size_t i;
-    for (i = 0; i < s->news.count; i++) {
-        const struct opened *other = ((struct receiving *)s->news.at[i])->opened;
+    for (i = 0; i < s->opened_now.count; i++) {
+        const struct opened *other = ((struct receiving *)s->opened_now.at[i])->opened;
         if (is_same_stream(other, it) && strcmp(other->before, it->before) == 0)
             return OPENING_FORKED;
     }
@@ -167,7 +167,7 @@ static enum answer open_session(struct shard *s, const struct carried *it, struc
     if (done != ANSWER_FOUND)
         return done;
     (*found)->opened_at = it->offset;
-    s->news.at[s->news.count++] = *found;
+    s->opened_now.at[s->opened_now.count++] = *found;
     return ANSWER_FOUND;
 }
 

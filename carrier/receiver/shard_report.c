@@ -68,9 +68,9 @@ void shard_count_refused(struct shard_counts *counts, uint32_t answer)
 void shard_note_alive(struct shard *s)
 {
     uint64_t now = nanoseconds();
-    if (now - s->shown < SECOND)
+    if (now - s->shown_at < SECOND)
         return;
-    s->shown = now;
+    s->shown_at = now;
     shard_show(s, s->number);
 }
 
@@ -123,6 +123,6 @@ void shard_show(struct shard *s, unsigned part)
     for (i = 0; i < REFUSALS; i++)
         values[shard_metrics_count - REFUSALS + i] = (double)c->refused[i];
     write_whole(labels, sizeof labels, "shard=\"%u\"", s->number);
-    service_alive(part, s->is_loaded && nanoseconds() - s->answered < SILENCE, labels, values);
+    service_alive(part, s->is_loaded && nanoseconds() - s->answered_at < SILENCE, labels, values);
     name_standing(s, part);
 }

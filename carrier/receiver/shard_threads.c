@@ -108,8 +108,8 @@ static void step(struct served *it, uint64_t *until)
     struct shard *shard = &it->shard;
     unsigned long receipts = shard->counts.receipts;
     int count = shard_step(shard, until);
-    if (shard->answered != 0)
-        __atomic_store_n(&it->answered, shard->answered, __ATOMIC_SEQ_CST);
+    if (shard->answered_at != 0)
+        __atomic_store_n(&it->answered, shard->answered_at, __ATOMIC_SEQ_CST);
     if (shard->counts.accepted == 0 && count == 0)
         it->began = nanoseconds();
     it->is_unshown |= count != 0 || !shard->is_loaded || shard->counts.receipts != receipts;

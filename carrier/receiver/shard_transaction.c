@@ -18,12 +18,12 @@
 /* The row that this transaction leaves. */
 static void draft(struct receiving *it)
 {
-    const struct krbrelay_row *row = &it->drafted;
-    it->now.next = row->number;
-    it->now.closed = row->closed;
-    memcpy(it->now.history.bytes, row->history, sizeof row->history);
+    const struct krbrelay_row *row = &it->end_row;
+    it->drafted.next = row->number;
+    it->drafted.closed = row->closed;
+    memcpy(it->drafted.history.bytes, row->history, sizeof row->history);
     if (row->closed)
-        it->now.missed = MISSED_NOTHING;
+        it->drafted.missed = MISSED_NOTHING;
 }
 
 static enum answer advance_all(struct shard *s)
@@ -32,7 +32,7 @@ static enum answer advance_all(struct shard *s)
     for (i = 0; i < s->changed.count; i++) {
         struct receiving *it = s->changed.at[i];
         draft(it);
-        if (store_advance(s->store, it->of.name, &it->stored, &it->now) != ANSWER_DONE)
+        if (store_advance(s->store, it->of.name, &it->stored, &it->drafted) != ANSWER_DONE)
             return ANSWER_FAULT;
         if (it->opened_at > 0 && openings_add(s->store, s->kerberos, it->opened) != ANSWER_DONE)
             return ANSWER_FAULT;
@@ -41,23 +41,23 @@ static enum answer advance_all(struct shard *s)
 }
 
 /* Keeps of the sessions whose openings were fetched those that weren't taken yet. */
-static void keep_news(struct shard *s)
+static void keep_opened(struct shard *s)
 {
     size_t i, kept = 0;
-    for (i = 0; i < s->news.count; i++)
-        if (((struct receiving *)s->news.at[i])->opened_at > 0)
-            s->news.at[kept++] = s->news.at[i];
-    s->news.count = kept;
+    for (i = 0; i < s->opened_now.count; i++)
+        if (((struct receiving *)s->opened_now.at[i])->opened_at > 0)
+            s->opened_now.at[kept++] = s->opened_now.at[i];
+    s->opened_now.count = kept;
 }
 
 static void count_stored(struct shard *s)
 {
-    s->counts.texts += s->drafted.texts;
-    s->counts.bytes += s->drafted.bytes;
-    s->counts.accepted += s->drafted.accepted;
-    s->counts.aside += s->drafted.aside;
+    s->counts.texts += s->counted.texts;
+    s->counts.bytes += s->counted.bytes;
+    s->counts.accepted += s->counted.accepted;
+    s->counts.aside += s->counted.aside;
     s->counts.commits++;
-    s->open -= s->drafted.closed < s->open ? s->drafted.closed : s->open;
+    s->open -= s->counted.closed < s->open ? s->counted.closed : s->open;
 }
 
 /* The transaction took effect. ANSWER_FAULT: krb_receiver doesn't say up to where. */
@@ -67,13 +67,13 @@ static enum answer note_stored(struct shard *s)
     enum answer answer = krbrelay_shard_stored(&s->ends) == KRBRELAY_OK ? shard_look(s) : ANSWER_FAULT;
     for (i = 0; i < s->changed.count; i++) {
         struct receiving *it = s->changed.at[i];
-        it->now.is_stored = 1;
-        s->ended += it->now.closed && !it->stored.closed;
-        it->stored = it->now;
+        it->drafted.is_stored = 1;
+        s->ended += it->drafted.closed && !it->stored.closed;
+        it->stored = it->drafted;
         it->is_changed = 0;
         it->opened_at = 0;
     }
-    keep_news(s);
+    keep_opened(s);
     s->changed.count = 0;
     s->done_parts.parts = 0;
     count_stored(s);
@@ -98,7 +98,7 @@ static uint32_t ask_fence(struct shard *s)
     struct reached reached;
     uint32_t found = KRBRELAY_FOUND_SAME;
     if (store_reached(s->store, s->number, &reached) != ANSWER_DONE
-        || krbrelay_shard_found(&s->ends, reached.incarnation, reached.offset, &found) != KRBRELAY_OK)
+        || krbrelay_shard_found(&s->ends, reached.list, reached.offset, &found) != KRBRELAY_OK)
         return KRBRELAY_FAILURE_FAULT;
     return found == KRBRELAY_FOUND_SAME ? SHARD_DONE : KRBRELAY_FAILURE_FENCED;
 }
@@ -186,10 +186,10 @@ static uint32_t take_frames(struct shard *s, int end, int alone, int *next)
 {
     enum answer answer = ANSWER_DONE;
     int i = s->next;
-    s->shown = nanoseconds();
+    s->shown_at = nanoseconds();
     s->is_last = 0;
-    s->drafted = (struct drafted){ .texts = 0 };
-    s->together.first = s->together.count = 0;
+    s->counted = (struct counted){ .texts = 0 };
+    s->call.first = s->call.count = 0;
     while (i < end && (i == s->next || !is_full(s))) {
         answer = shard_take(s, i, end, alone);
         if (answer != ANSWER_DONE)
@@ -250,7 +250,7 @@ struct transacted shard_transact(struct shard *s)
     s->moment = read_clock();
     s->lap = nanoseconds();
     ended = transact(s);
-    if (ended.failure != SHARD_DONE && s->news.count > 0)
+    if (ended.failure != SHARD_DONE && s->opened_now.count > 0)
         shard_forget(s); /* what the openings brought isn't stored */
     return ended;
 }

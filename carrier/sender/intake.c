@@ -75,7 +75,7 @@ static enum answer take(struct sender *s, struct sending **it, const struct wait
 /* Whether a session's texts from this one on are left for good. */
 static int is_left(const struct sending *it, const struct waiting_text *text)
 {
-    return it->stopped_at > 0 && text->id >= it->stopped_at;
+    return it->stopped_from > 0 && text->id >= it->stopped_from;
 }
 
 /* ---- Texts that are new */

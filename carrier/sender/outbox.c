@@ -262,7 +262,7 @@ enum answer outbox_load(struct outbox *o, const struct session *session, struct 
         it->next = (uint64_t)sqlite3_column_int64(select->at, 0);
         it->carried = (uint64_t)sqlite3_column_int64(select->at, 1);
         it->at = (uint64_t)sqlite3_column_int64(select->at, 2);
-        it->incarnation = (uint64_t)sqlite3_column_int64(select->at, 3);
+        it->list = (uint64_t)sqlite3_column_int64(select->at, 3);
         it->shard = sqlite3_column_int(select->at, 4);
         it->done = (uint64_t)sqlite3_column_int64(select->at, 5);
         history = (const char *)sqlite3_column_text(select->at, 6);
@@ -475,7 +475,7 @@ enum answer outbox_set_carried(struct outbox *o, const char *session, const stru
     bind_text(set, 7, history);
     bind_number(set, 1, (sqlite3_int64)it->carried);
     bind_number(set, 2, (sqlite3_int64)it->at);
-    bind_number(set, 3, (sqlite3_int64)it->incarnation);
+    bind_number(set, 3, (sqlite3_int64)it->list);
     bind_number(set, 4, it->shard);
     bind_text(set, 5, session);
     bind_number(set, 6, (sqlite3_int64)it->done);

@@ -81,11 +81,11 @@ struct waiting_text {
     size_t len;
 };
 
-/* How far a session is, as krbrelay_sending_load takes it: `at` is an offset of the list of this shard with this
- * incarnation (carrier.h); a shard of -1, an incarnation of 0: it isn't known. All below `done` took effect, as
+/* How far a session is, as krbrelay_sending_load takes it: `at` is an offset of this list of the shard
+ * (carrier.h); a shard of -1, a list of 0: it isn't known. All below `done` took effect, as
  * receipts say; `history` is that of the frames below `done` (history.h). */
 struct outbox_progress {
-    uint64_t next, carried, at, incarnation, done;
+    uint64_t next, carried, at, list, done;
     int32_t shard;
     uint32_t stands; /* KRBRELAY_STANDS_* */
     struct history history;

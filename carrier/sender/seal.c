@@ -30,7 +30,7 @@ static int draw(uint8_t confounder[16])
 
 static enum answer stop(struct sealing *s, struct sending *it, sqlite3_int64 at, const char *reason)
 {
-    it->stopped_at = at;
+    it->stopped_from = at;
     copy_cut(it->reason, sizeof it->reason, reason);
     s->stopped = it;
     return ANSWER_STOPPED;

@@ -2,7 +2,7 @@
  * outbox: what doesn't answer ANSWER_DONE wants it to be given up, and its sessions to be reset. Records get their
  * numbers in turn, and those of a transaction are sealed together, since that is quicker.
  *
- * ANSWER_FAULT may pass. ANSWER_STOPPED won't: of the session `stopped` the texts from `stopped_at` on can't be sealed,
+ * ANSWER_FAULT may pass. ANSWER_STOPPED won't: of the session `stopped` the texts from `stopped_from` on can't be sealed,
  * `reason` says why, and those before them still can. */
 #ifndef SEAL_H
 #define SEAL_H
@@ -18,13 +18,13 @@ struct sending {
     struct stream *stream;      /* whose session it is then, */
     struct wrapped *wrapped;    /* its key as the outbox is to have it; NULL: it has it, */
     int is_stored;              /* and its row: its opening may leave, */
-    int is_held;                /* but waits for a ticket, or for the session before, */
+    int waits_to_open;          /* but waits for a ticket, or for the session before, */
     int is_closing;             /* and this transaction closes it, since it is old */
     uint32_t tag;               /* of its frames' confirmations */
     size_t lane;                /* its shard's place, */
     uint32_t place;             /* and its own among the shard's sessions */
     struct krbrelay_sealer sealer; /* made with the first text */
-    struct outbox_progress kept, next_kept; /* what the outbox has, and has after this transaction */
+    struct outbox_progress stored, drafted; /* what the outbox has, and has after this transaction */
     struct krbrelay_sending end;   /* how far it is, and why it stands: as its shard's lane has it */
     uint64_t room;              /* so many frames more may be stored */
     uint64_t sealed;            /* the next record's number, which is end.progress.next once stored; */
@@ -35,7 +35,7 @@ struct sending {
     size_t size, batch_room;
     unsigned texts;
     sqlite3_int64 begin;        /* of which this is the first */
-    sqlite3_int64 stopped_at;   /* texts from this one on aren't taken; 0: all are */
+    sqlite3_int64 stopped_from; /* texts from this one on aren't taken; 0: all are */
     char reason[256];
     uint64_t stopped_since;     /* in seconds since 1970, if a receipt stopped it before this start; or 0 */
     struct stop *stop;          /* the receipt that stopped it, until the outbox has it; or NULL */
@@ -45,8 +45,8 @@ struct sending {
     int is_unread;              /* `history` couldn't be read: nothing is sealed before it is */
     struct krbrelay_opener receipts; /* made with the first one */
     uint64_t uncarried, awaited, unreceipted, undone; /* as its shard's sums have them (sender_turns.c) */
-    uint64_t left;              /* the frames below have left before, */
-    uint64_t answered;          /* and those below wait for no answer of the carrier, whether that counts */
+    uint64_t published_below;   /* the frames below have left before, */
+    uint64_t answered_below;    /* and those below wait for no answer of the carrier, whether that counts */
     uint32_t stands, stands_now; /* why it stands, as the outbox has it, and now: KRBRELAY_STANDS_* */
 };
 

@@ -91,10 +91,10 @@ static enum answer keep_sealed(struct sender *s)
 static enum answer reached(struct sender *s, const struct sending *it, struct outbox_progress *now)
 {
     const struct krbrelay_sending *end = &it->end;
-    *now = (struct outbox_progress){ .next = it->kept.next, .carried = end->progress.carried, .done = end->done,
-                                     .at = end->progress.at, .incarnation = end->list,
+    *now = (struct outbox_progress){ .next = it->stored.next, .carried = end->progress.carried, .done = end->done,
+                                     .at = end->progress.at, .list = end->list,
                                      .shard = (int32_t)it->of.shard };
-    return outbox_history(&s->outbox, &it->of, it->kept.done, &it->kept.history, end->done, &now->history);
+    return outbox_history(&s->outbox, &it->of, it->stored.done, &it->stored.history, end->done, &now->history);
 }
 
 /* Stores how far sessions are. */
@@ -105,9 +105,9 @@ static enum answer keep_dirty(struct sender *s)
         struct sending *it = s->dirty.at[i];
         struct outbox_progress now;
         if (reached(s, it, &now) != ANSWER_DONE || outbox_set_carried(&s->outbox, it->of.name, &now) != ANSWER_DONE
-            || (now.done > it->kept.done && outbox_drop_done(&s->outbox, it->of.name, now.done) != ANSWER_DONE))
+            || (now.done > it->stored.done && outbox_drop_done(&s->outbox, it->of.name, now.done) != ANSWER_DONE))
             return ANSWER_FAULT;
-        it->next_kept = now;
+        it->drafted = now;
     }
     return ANSWER_DONE;
 }
@@ -121,7 +121,7 @@ static void note_kept(struct sender *s)
     s->ended.count = 0;
     for (i = 0; i < s->dirty.count; i++) {
         struct sending *it = s->dirty.at[i];
-        it->kept = it->next_kept;
+        it->stored = it->drafted;
         it->is_dirty = 0;
     }
     s->dirty.count = 0;
@@ -129,7 +129,7 @@ static void note_kept(struct sender *s)
         struct sending *it = s->touched.at[i];
         (void)turns_has(it, krbrelay_lane_sealed(&s->lanes[it->lane].ends, it->place,
                                                    it->sealed - it->end.progress.next)); /* else it is told */
-        it->kept.next = it->sealed;
+        it->stored.next = it->sealed;
         it->is_touched = 0;
         it->is_stored = 1;
         free(it->wrapped);
@@ -174,7 +174,7 @@ static enum answer store(struct sender *s, int with_texts)
     if (answer == ANSWER_DONE)
         answer = keep_dirty(s);
     if (answer == ANSWER_DONE && outbox_commit(&s->outbox) == ANSWER_DONE) {
-        s->kept_moment = milliseconds();
+        s->stored_at = milliseconds();
         note_kept(s);
         return ANSWER_DONE;
     }
@@ -202,9 +202,9 @@ static uint64_t note_silence(struct sender *s, size_t rose)
 {
     uint64_t backlog = awaited(s), now = nanoseconds();
     if (rose > 0 || (backlog == 0 && !s->carrier->is_away(s->carrier)))
-        s->rose = now;
+        s->carried_at = now;
     if (rose > 0 || backlog == 0)
-        s->told = now;
+        s->told_at = now;
     return backlog;
 }
 
@@ -212,16 +212,16 @@ static uint64_t note_silence(struct sender *s, size_t rose)
 static void report_silence(struct sender *s, size_t rose)
 {
     uint64_t backlog = note_silence(s, rose), now = nanoseconds();
-    if (now - s->told < SILENCE)
+    if (now - s->told_at < SILENCE)
         return;
     log_fact(LEVEL_WARNING, "nothing_confirmed", field_number("frames", backlog),
              field_number("seconds", SILENCE / SECOND),
              field_text("text", "are most nodes of the carrier up? They are published again"));
-    s->told = now;
+    s->told_at = now;
 }
 
 /* Begins anew if the file of sessions has changed: those that no receipt stopped are tried again. */
-static enum answer look_at_sessions(struct sender *s)
+static enum answer check_sessions(struct sender *s)
 {
     enum answer begun;
     if (s->newer == NULL)
@@ -243,7 +243,7 @@ static enum answer look_at_sessions(struct sender *s)
 }
 
 /* After a SIGHUP the sessions that were begun so far are old. */
-static enum answer look_at_hangups(struct sender *s)
+static enum answer check_hangups(struct sender *s)
 {
     uint64_t now = read_clock().seconds;
     enum answer answer;
@@ -254,7 +254,7 @@ static enum answer look_at_hangups(struct sender *s)
     answer = outbox_set_renewed(&s->outbox, now);
     if (answer != ANSWER_DONE)
         return answer;
-    s->renew = now;
+    s->old_up_to = now;
     s->is_hung_up = 0;
     log_fact(LEVEL_INFO, "streams_renewed", field_number("up_to", now),
              field_text("text", "each stream's next text begins a session with a new key"));
@@ -320,7 +320,7 @@ static enum answer keep_stands(struct sender *s)
     for (i = 0; i < s->all.count; i++) {
         struct sending *it = s->all.at[i];
         if (krbrelay_sending_state(&it->end, &under_way, &room, &settled, &it->stands_now) != KRBRELAY_OK
-            || it->stopped_at == 1)
+            || it->stopped_from == 1)
             it->stands_now = KRBRELAY_STANDS_NOT; /* one that is stopped has its reason in `stopped` */
         else if (it->uncarried > 0 && turns_is_shard_away(s, it))
             it->stands_now = KRBRELAY_STANDS_UNCONFIRMED;
@@ -343,11 +343,11 @@ static enum answer keep_stands(struct sender *s)
 static enum answer look(struct sender *s)
 {
     enum answer answer;
-    if (nanoseconds() - s->looked < SECOND)
+    if (nanoseconds() - s->looked_at < SECOND)
         return ANSWER_DONE;
     if (s->has_begun)
         (void)note_silence(s, 0); /* how much waits is reported with what is carried */
-    s->looked = nanoseconds();
+    s->looked_at = nanoseconds();
     sender_show(s);
     service_tell_alive();
     answer = outbox_owned(&s->outbox);
@@ -357,13 +357,13 @@ static enum answer look(struct sender *s)
         return ANSWER_FAULT; /* which is reported: a unit starts this program again */
     answer = keep_stands(s);
     if (answer == ANSWER_DONE)
-        answer = look_at_sessions(s);
+        answer = check_sessions(s);
     if (answer == ANSWER_DONE)
         answer = forget_ended(s);
     if (answer == ANSWER_DONE)
-        sender_try_left(s);
+        sender_try_keys(s);
     if (answer == ANSWER_DONE && s->kerberos != NULL)
-        answer = look_at_hangups(s);
+        answer = check_hangups(s);
     return answer == ANSWER_AGAIN ? ANSWER_DONE : answer; /* then in a second */
 }
 
@@ -373,7 +373,7 @@ static int may_get_tickets(struct sender *s)
     if (s->tickets == NULL)
         return 0;
     return !tickets_have_tried(s->tickets)
-           || (s->held > 0 && tickets_have(s->tickets));
+           || (s->unopened > 0 && tickets_have(s->tickets));
 }
 
 /* Whether all is done that can be. */
@@ -420,10 +420,10 @@ static int have_begun(struct sender *s)
         return 1;
     if (!s->has_heard)
         receipts_hear(s);
-    if (!s->has_heard && now - s->told >= SILENCE) {
+    if (!s->has_heard && now - s->told_at >= SILENCE) {
         log_fact(LEVEL_WARNING, "receipts_unread", field_text("text", "the last receipts of all sessions can't be read:"
                  " nothing is sealed, and nothing leaves, until they are"));
-        s->told = now;
+        s->told_at = now;
     }
     if (!s->has_heard || s->untold.count > 0 || now < s->begins)
         return 0;
@@ -445,17 +445,17 @@ static uint64_t next_time(struct sender *s)
 {
     uint64_t next = earlier(turns_next_time(s), receipts_next_time(s));
     if (s->dirty.count > 0)
-        next = earlier(next, s->kept_moment + KEPT);
+        next = earlier(next, s->stored_at + KEPT);
     if (s->options.drain || s->untold.count > 0)
         next = earlier(next, milliseconds() + IDLE);
-    return earlier(next, (s->looked + SECOND) / MILLISECOND + 1);
+    return earlier(next, (s->looked_at + SECOND) / MILLISECOND + 1);
 }
 
 /* Stores what waits: 1 if there was anything, 0 if not. */
 static int keep(struct sender *s, int texts, enum answer *answer)
 {
     uint64_t began = nanoseconds(), sealing = s->sealing.nanoseconds;
-    if (!texts && (s->dirty.count == 0 || milliseconds() - s->kept_moment < KEPT))
+    if (!texts && (s->dirty.count == 0 || milliseconds() - s->stored_at < KEPT))
         return 0;
     *answer = store(s, texts);
     if (*answer == ANSWER_AGAIN)
@@ -552,11 +552,11 @@ enum answer sender_open(struct sender *s)
         return ANSWER_FAULT;
     if (s->kerberos != NULL && outbox_wrap_anew(&s->outbox, s->kerberos) != ANSWER_DONE)
         return ANSWER_FAULT;
-    if (outbox_renewed(&s->outbox, &s->renew) != ANSWER_DONE || sender_begin_showing() != 0)
+    if (outbox_renewed(&s->outbox, &s->old_up_to) != ANSWER_DONE || sender_begin_showing() != 0)
         return ANSWER_FAULT;
     if (s->options.metrics != NULL && service_listen(s->options.metrics) != 0)
         return ANSWER_FAULT;
-    s->rose = s->told = nanoseconds();
+    s->carried_at = s->told_at = nanoseconds();
     return ANSWER_DONE;
 }
 

@@ -44,7 +44,7 @@ struct lane {
 struct stream {
     char name[CARRIER_NAME];     /* the first member: it is found by it */
     struct sending *now, *next;  /* its session, and the one that is to come after it; or NULL */
-    enum { STREAM_TAKEN, STREAM_LEFT, STREAM_TRIED } left; /* its key couldn't be read: it takes no text
+    enum { STREAM_TAKEN, STREAM_UNREADABLE, STREAM_TRIED } key; /* its key couldn't be read: it takes no text
                                   * until all texts are looked at again, in their order */
     int is_renewed;              /* this transaction closes `now`: texts are the next one's */
 };
@@ -54,7 +54,7 @@ struct sender {
     struct kerberos *kerberos;  /* NULL: no session begins by a ticket */
     struct tickets *tickets;
     void *streams;              /* tsearch's tree of the streams of which texts came */
-    uint64_t renew;             /* sessions that were begun up to this second are old */
+    uint64_t old_up_to;         /* sessions that were begun up to this second are old */
     int is_hung_up;             /* SIGHUP came, and the outbox isn't told yet */
     uint8_t *opening;           /* OPENING bytes */
     struct outbox outbox;
@@ -75,7 +75,7 @@ struct sender {
     struct list untold;         /* that are stopped, and the outbox doesn't say so yet */
     struct list sealable;       /* with texts that wait, of which some may be sealed now */
     struct list deaf;           /* with receipts that can't be heard now */
-    void *kept;                 /* tsearch's tree of the receipts that were there at the start, of sessions that
+    void *kept_receipts;        /* tsearch's tree of the receipts that were there at the start, of sessions that
                                  * weren't loaded since, and of those that can't be heard now */
     struct stop *spare;         /* room for the next receipt that stops a session, or NULL */
     int has_heard;              /* the last receipts of all sessions were read, */
@@ -87,18 +87,18 @@ struct sender {
     unsigned long published, again, receipts;
     uint64_t uncarried, awaited, unreceipted; /* frames of all sessions that aren't carried; that have left, and
                                  * wait for the carrier's answer; that are carried, and wait for a receipt */
-    size_t held, standing;      /* sessions that are held (seal.h); that stand */
-    uint64_t kept_moment;       /* when the outbox was written last, in milliseconds */
+    size_t unopened, standing;  /* sessions that wait to open (seal.h); that stand */
+    uint64_t stored_at;         /* when the outbox was written last, in milliseconds */
     int is_unheard;             /* it has to be looked for receipts: some may have come, */
     struct krbrelay_pause hearing, hearing_again; /* after these pauses; and what can't be heard now is tried again */
     uint64_t rests;             /* after a fault nothing is done before this moment, in milliseconds */
     int hears;                  /* what comes is taken at once: all that came before was */
     uint64_t storing, carrying; /* nanoseconds */
-    uint64_t rose;              /* when a frame was carried last, or the carrier was there and none waited for it, */
-    uint64_t told;              /* and when it was reported that none is, or there was no reason to */
-    uint64_t left_moment;       /* keys that couldn't be read are tried again then; 0: all could be, */
-    unsigned left_tries;        /* and so often they were tried in vain */
-    uint64_t looked;            /* when it was looked whether the outbox is this process's */
+    uint64_t carried_at;        /* when a frame was carried last, or the carrier was there and none waited for it, */
+    uint64_t told_at;           /* and when it was reported that none is, or there was no reason to */
+    uint64_t keys_at;           /* keys that couldn't be read are tried again then; 0: all could be, */
+    unsigned key_tries;         /* and so often they were tried in vain */
+    uint64_t looked_at;         /* when it was looked whether the outbox is this process's */
 };
 
 /* Opens all that its options name, of a sender that has nothing else. After a fault it has to be closed too. */
@@ -164,10 +164,10 @@ void sender_note_renewed(struct sending *it, int is_kept);
 void sender_forget_streams(struct sender *s);
 
 /* A key couldn't be read: it is tried again after some seconds, and then ever more rarely. */
-void sender_note_left(struct sender *s);
+void sender_note_unreadable(struct sender *s);
 
 /* Tries those that are due: their texts are looked at again, in their order. */
-void sender_try_left(struct sender *s);
+void sender_try_keys(struct sender *s);
 
 /* ---- intake.c */
 

@@ -110,7 +110,7 @@ static int work(struct sender *s)
     if (answer == ANSWER_TAKEN)
         log_fact(LEVEL_ERROR, "outbox_taken", field_text("file", s->options.outbox),
                  field_text("text", "another sender has taken it over: this one ends"));
-    held = s->held;
+    held = s->unopened;
     stopped = 0;
     if (!outbox_is_lost(answer) && outbox_count_stopped(&s->outbox, &stopped) != ANSWER_DONE)
         answer = ANSWER_FAULT; /* whether all could be sent isn't known */

@@ -78,8 +78,8 @@ static enum answer begin(struct sender *s, struct stream *stream, const struct b
     it.opened.shard = shard_of(s, stream, last);
     it.opened.says_shard = 1;
     it.since = read_clock().seconds;
-    if (it.since <= s->renew)
-        it.since = s->renew + 1; /* SIGHUP came in this second */
+    if (it.since <= s->old_up_to)
+        it.since = s->old_up_to + 1; /* SIGHUP came in this second */
     if (last != NULL) {
         memcpy(it.opened.before, last->opened.name, sizeof it.opened.before);
         it.turn = last->turn + 1;
@@ -139,8 +139,8 @@ enum answer sender_find_begun(struct sender *s, const char *name, struct sending
 /* The key of a stream that was left can be read now. In a transaction. */
 static enum answer end_stop(struct sender *s, struct stream *stream)
 {
-    stream->left = STREAM_TAKEN;
-    s->left_tries = 0;
+    stream->key = STREAM_TAKEN;
+    s->key_tries = 0;
     log_fact(LEVEL_INFO, "stream_taken_up", field_text("stream", stream->name),
              field_text("text", "its key can be read: its texts are taken again, in their order"));
     return outbox_end_stopped(&s->outbox, stream->name);
@@ -157,39 +157,39 @@ enum answer sender_find_stream(struct sender *s, const char *name, struct sendin
     if (stream == NULL)
         return ANSWER_FAULT;
     if (stream->now == NULL)
-        answer = stream->left == STREAM_LEFT ? ANSWER_DONE : load(s, stream);
+        answer = stream->key == STREAM_UNREADABLE ? ANSWER_DONE : load(s, stream);
     if (answer == ANSWER_DONE) {
-        stream->left = STREAM_LEFT; /* so that no later text of it is taken before this one */
-        sender_note_left(s);
+        stream->key = STREAM_UNREADABLE; /* so that no later text of it is taken before this one */
+        sender_note_unreadable(s);
     }
-    if (answer == ANSWER_FOUND && stream->left == STREAM_TRIED && end_stop(s, stream) != ANSWER_DONE)
+    if (answer == ANSWER_FOUND && stream->key == STREAM_TRIED && end_stop(s, stream) != ANSWER_DONE)
         return ANSWER_FAULT;
     if (answer == ANSWER_FOUND)
         *it = stream->is_renewed ? stream->next : stream->now;
     return answer;
 }
 
-void sender_note_left(struct sender *s)
+void sender_note_unreadable(struct sender *s)
 {
-    unsigned doubled = s->left_tries < MOST_TRIES ? s->left_tries : MOST_TRIES;
-    if (s->left_moment == 0)
-        s->left_moment = nanoseconds() + (LATER << doubled);
+    unsigned doubled = s->key_tries < MOST_TRIES ? s->key_tries : MOST_TRIES;
+    if (s->keys_at == 0)
+        s->keys_at = nanoseconds() + (LATER << doubled);
 }
 
 static void try_again(const void *node, VISIT visit, int depth)
 {
     struct stream *stream = *(struct stream *const *)node;
     (void)depth;
-    if ((visit == postorder || visit == leaf) && stream->left == STREAM_LEFT)
-        stream->left = STREAM_TRIED;
+    if ((visit == postorder || visit == leaf) && stream->key == STREAM_UNREADABLE)
+        stream->key = STREAM_TRIED;
 }
 
-void sender_try_left(struct sender *s)
+void sender_try_keys(struct sender *s)
 {
-    if (s->left_moment == 0 || nanoseconds() < s->left_moment)
+    if (s->keys_at == 0 || nanoseconds() < s->keys_at)
         return;
-    s->left_moment = 0;
-    s->left_tries++;
+    s->keys_at = 0;
+    s->key_tries++;
     twalk(s->streams, try_again);
     s->seen = 0;
     s->has_begun = 0; /* those that are loaded stay */
@@ -223,7 +223,7 @@ int sender_is_old(const struct sender *s, const struct sending *it)
     if (begun == NULL || it->sealed == 1 || it->stream->is_renewed)
         return 0; /* it has a line, or nothing was sealed yet, or it begins in this transaction */
     return begun->since + s->options.life <= now || begun->since > now + 1 /* the clock was ahead */
-           || begun->since <= s->renew || it->sealed > NUMBERS;
+           || begun->since <= s->old_up_to || it->sealed > NUMBERS;
 }
 
 enum answer sender_renew(struct sender *s, struct sending **it, sqlite3_int64 id)

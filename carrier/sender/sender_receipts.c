@@ -38,7 +38,7 @@ static enum krbrelay_own own_of(struct sender *s, const struct sending *it, cons
     *own = receipt->history;
     if (!receipt->history.is_known || receipt->n <= it->end.done || receipt->n > it->end.progress.next)
         return KRBRELAY_OWN_UNKNOWN; /* it isn't compared */
-    if (outbox_history(&s->outbox, &it->of, it->kept.done, &it->kept.history, receipt->n, own) != ANSWER_DONE)
+    if (outbox_history(&s->outbox, &it->of, it->stored.done, &it->stored.history, receipt->n, own) != ANSWER_DONE)
         return KRBRELAY_OWN_FAULT;
     return own->is_known ? KRBRELAY_OWN_KNOWN : KRBRELAY_OWN_UNKNOWN;
 }
@@ -100,7 +100,7 @@ static void wake_next(struct sender *s, const struct sending *it)
     size_t i;
     for (i = 0; i < s->all.count; i++) {
         struct sending *next = s->all.at[i];
-        if (next->begun != NULL && next->stopped_at != 1 && !next->is_touched
+        if (next->begun != NULL && next->stopped_from != 1 && !next->is_touched
             && strcmp(next->begun->opened.before, it->of.name) == 0)
             (void)sender_load(s, next); /* else it goes on as it is, too */
     }
@@ -136,7 +136,7 @@ static int may_have(const struct sender *s, const char *name)
 
 static struct kept *find_kept(const struct sender *s, const char *name)
 {
-    void *found = tfind(name, &s->kept, by_name);
+    void *found = tfind(name, &s->kept_receipts, by_name);
     return found != NULL ? *(struct kept **)found : NULL;
 }
 
@@ -172,7 +172,7 @@ static enum answer keep(struct sender *s, const char *name, const uint8_t *bytes
         first->next = it;
         return ANSWER_DONE;
     }
-    if (tsearch(it, &s->kept, by_name) != NULL)
+    if (tsearch(it, &s->kept_receipts, by_name) != NULL)
         return ANSWER_DONE;
     free(it);
     return ANSWER_FAULT;
@@ -201,15 +201,15 @@ enum heard receipts_hear_kept(struct sender *s, struct sending *it)
     }
     if (first == NULL || most == HEARD_FAULT)
         return most;
-    (void)tdelete(first, &s->kept, by_name); /* it was found */
+    (void)tdelete(first, &s->kept_receipts, by_name); /* it was found */
     forget_kept(first);
     return most;
 }
 
 void receipts_forget(struct sender *s)
 {
-    tdestroy(s->kept, forget_node);
-    s->kept = NULL;
+    tdestroy(s->kept_receipts, forget_node);
+    s->kept_receipts = NULL;
     free(s->spare);
     s->spare = NULL;
 }
@@ -220,7 +220,7 @@ void receipts_forget(struct sender *s)
 static void take(struct sender *s, struct sending *it, const uint8_t *bytes, size_t len)
 {
     enum heard heard = HEARD_FAULT;
-    if (it->stopped_at == 1)
+    if (it->stopped_from == 1)
         return;
     if (!it->is_deaf)
         heard = hear_receipt(s, it, bytes, len);
@@ -249,7 +249,7 @@ static void hear_again(struct sender *s)
     size_t i, left = 0;
     for (i = 0; i < s->deaf.count; i++) {
         struct sending *it = s->deaf.at[i];
-        enum heard heard = it->stopped_at == 1 ? HEARD_NOTHING : receipts_hear_kept(s, it);
+        enum heard heard = it->stopped_from == 1 ? HEARD_NOTHING : receipts_hear_kept(s, it);
         it->is_deaf = heard == HEARD_FAULT;
         if (it->is_deaf)
             s->deaf.at[left++] = it;

@@ -30,7 +30,7 @@
     X("krbrelay_sender_receipts_total", "counter", "Receipts that covered more than those before", s->receipts) \
     X("krbrelay_sender_frames_without_receipt", "gauge", "Frames that are carried and wait for a receipt", \
       s->unreceipted) \
-    X("krbrelay_sender_held_sessions", "gauge", "Sessions that wait for a ticket, or for the one before", s->held) \
+    X("krbrelay_sender_held_sessions", "gauge", "Sessions that wait for a ticket, or for the one before", s->unopened) \
     X("krbrelay_sender_standing_sessions", "gauge", \
       "Sessions that stand: nobody confirms, answers or takes their frames", s->standing) \
     X("krbrelay_sender_stopped_sessions", "gauge", "Sessions that are stopped", counted(s, outbox_count_stopped)) \
@@ -109,7 +109,7 @@ static void show_delays(const struct delays *delays, double *values)
 
 void sender_show(struct sender *s)
 {
-    double silent = (double)(nanoseconds() - s->rose) / 1e9;
+    double silent = (double)(nanoseconds() - s->carried_at) / 1e9;
     double values[METRICS] = { OF_SENDER(VALUE) };
     unsigned i;
     show_delays(&s->outbox.delays, values + DELAYS_AT);

@@ -78,10 +78,10 @@ struct sending *sender_add(struct sender *s, const struct session *of, struct be
 static enum krbrelay_answer load_end(struct sender *s, const struct sending *it)
 {
     struct lane *lane = &s->lanes[it->lane];
-    const struct outbox_progress *kept = &it->kept;
+    const struct outbox_progress *kept = &it->stored;
     int is_elsewhere = kept->shard >= 0 && kept->shard != (int32_t)it->of.shard;
     struct krbrelay_stored row = { .next = kept->next, .carried = kept->carried, .at = kept->at, .done = kept->done,
-                                   .list = is_elsewhere ? 0 : kept->incarnation };
+                                   .list = is_elsewhere ? 0 : kept->list };
     enum krbrelay_answer answer = turns_set_time(s, lane);
     uint32_t place = 0;
     if (answer != KRBRELAY_OK)
@@ -96,11 +96,11 @@ static enum krbrelay_answer load_end(struct sender *s, const struct sending *it)
 enum answer sender_load(struct sender *s, struct sending *it)
 {
     struct outbox_progress row;
-    const struct outbox_progress *kept = &it->kept;
+    const struct outbox_progress *kept = &it->stored;
     enum krbrelay_answer answer;
     if (outbox_load(&s->outbox, &it->of, &row) != ANSWER_DONE)
         return ANSWER_FAULT; /* what is known of it stays */
-    it->kept = row;
+    it->stored = row;
     answer = load_end(s, it);
     if (answer == KRBRELAY_MEMORY)
         log_system("out_of_memory", "sender");
@@ -118,7 +118,7 @@ enum answer sender_load(struct sender *s, struct sending *it)
 enum answer sender_read_history(struct sender *s, struct sending *it)
 {
     struct history history = { .is_known = 0 };
-    it->is_unread = outbox_history(&s->outbox, &it->of, it->kept.done, &it->kept.history, it->end.progress.next,
+    it->is_unread = outbox_history(&s->outbox, &it->of, it->stored.done, &it->stored.history, it->end.progress.next,
                                    &history) != ANSWER_DONE;
     seal_reset(it, &history);
     return it->is_unread ? ANSWER_FAULT : ANSWER_DONE;
@@ -145,7 +145,7 @@ enum answer sender_find(struct sender *s, const char *name, struct sending **it)
 static enum answer tell_unloaded(struct sender *s, const char *name)
 {
     if (s->kerberos != NULL)
-        sender_note_left(s);
+        sender_note_unreadable(s);
     return sender_stop(s, name, s->kerberos == NULL
                        ? "it has frames that aren't carried, and no line among the sessions"
                        : "it has frames that aren't carried, and no key: is the keytab there, and its"
@@ -164,7 +164,7 @@ static enum answer load_named(void *given, const char *name)
                                             : sender_find_begun(s, name, &it);
     if (found == ANSWER_DONE)
         return tell_unloaded(s, name);
-    if (found == ANSWER_FOUND && s->left_tries > 0 && it->stopped_at == 0 && sender_end_stop(s, name) == ANSWER_FAULT)
+    if (found == ANSWER_FOUND && s->key_tries > 0 && it->stopped_from == 0 && sender_end_stop(s, name) == ANSWER_FAULT)
         return ANSWER_FAULT; /* that its key can't be read was told before, perhaps of this one */
     return found == ANSWER_FAULT ? ANSWER_FAULT : ANSWER_DONE;
 }
@@ -211,7 +211,7 @@ void sender_forget(struct sender *s)
     list_forget(&s->sealable);
     list_forget(&s->untold);
     list_forget(&s->deaf);
-    s->held = 0;
+    s->unopened = 0;
     s->uncarried = s->awaited = s->unreceipted = 0;
     s->has_begun = 0;
     s->seen = 0;

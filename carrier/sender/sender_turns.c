@@ -20,7 +20,7 @@ enum {
 /* Whether its frames leave. */
 static int leaves(const struct sending *it)
 {
-    return it->stopped_at != 1 && !it->is_held && (it->begun == NULL || it->is_stored);
+    return it->stopped_from != 1 && !it->waits_to_open && (it->begun == NULL || it->is_stored);
 }
 
 static void count(uint64_t *of_lane, uint64_t *of_all, uint64_t *of, uint64_t now)
@@ -52,18 +52,18 @@ static void count_anew(struct sender *s, struct sending *it)
     uint64_t stored, undone, known;
     if (turns_look(s, it) != ANSWER_DONE)
         return; /* never: each session has its place */
-    s->held -= it->is_held && progress->sent > 0;
-    it->is_held = it->is_held && progress->sent == 0; /* a receipt says that its opening was taken before */
+    s->unopened -= it->waits_to_open && progress->sent > 0;
+    it->waits_to_open = it->waits_to_open && progress->sent == 0; /* a receipt says that its opening was taken before */
     stored = progress->next - progress->carried;
-    known = it->answered > progress->carried ? it->answered : progress->carried;
-    undone = it->stopped_at != 1 ? progress->next - it->end.done : 0;
-    it->room = it->stopped_at == 1 || it->is_deaf || stored > STORED ? 0 : STORED - stored;
+    known = it->answered_below > progress->carried ? it->answered_below : progress->carried;
+    undone = it->stopped_from != 1 ? progress->next - it->end.done : 0;
+    it->room = it->stopped_from == 1 || it->is_deaf || stored > STORED ? 0 : STORED - stored;
     lane->undone = lane->undone - it->undone + undone;
     it->undone = undone;
     count(&lane->uncarried, &s->uncarried, &it->uncarried, leaves(it) ? stored : 0);
     count(&lane->awaited, &s->awaited, &it->awaited, leaves(it) && progress->sent > known ? progress->sent - known : 0);
     count(&lane->unreceipted, &s->unreceipted, &it->unreceipted,
-          it->stopped_at != 1 ? progress->carried - it->end.done : 0);
+          it->stopped_from != 1 ? progress->carried - it->end.done : 0);
 }
 
 void turns_note(struct sender *s, struct sending *it)
@@ -75,12 +75,12 @@ void turns_note(struct sender *s, struct sending *it)
 
 void turns_stop(struct sender *s, struct sending *it)
 {
-    if (it->stopped_at != 1)
+    if (it->stopped_from != 1)
         s->untold.at[s->untold.count++] = it;
-    it->stopped_at = 1;
+    it->stopped_from = 1;
     (void)turns_has(it, krbrelay_lane_stop(&s->lanes[it->lane].ends, it->place)); /* else it is told */
-    s->held -= it->is_held != 0;
-    it->is_held = 0;
+    s->unopened -= it->waits_to_open != 0;
+    it->waits_to_open = 0;
     count_anew(s, it); /* there is nothing to do any more */
 }
 
@@ -164,9 +164,9 @@ static uint64_t perform(struct sender *s, struct sending *it, const struct krbre
 {
     switch (command->kind) {
     case KRBRELAY_COMMAND_PUBLISH:
-        s->again += command->number < it->left ? it->left - command->number : 0;
-        it->left = command->number + command->count > it->left ? command->number + command->count : it->left;
-        it->answered = command->number < it->answered ? command->number : it->answered;
+        s->again += command->number < it->published_below ? it->published_below - command->number : 0;
+        it->published_below = command->number + command->count > it->published_below ? command->number + command->count : it->published_below;
+        it->answered_below = command->number < it->answered_below ? command->number : it->answered_below;
         publish_frames(s, it, command->number, command->count);
         return command->count;
     case KRBRELAY_COMMAND_PROBE:
@@ -191,8 +191,8 @@ static uint64_t perform(struct sender *s, struct sending *it, const struct krbre
 static void release(struct sender *s, struct sending *it)
 {
     int is_held = !tickets_have(s->tickets) || sender_is_after(s, it);
-    s->held += (size_t)(is_held != 0) - (size_t)(it->is_held != 0);
-    it->is_held = is_held;
+    s->unopened += (size_t)(is_held != 0) - (size_t)(it->waits_to_open != 0);
+    it->waits_to_open = is_held;
     if (!is_held && it->is_stored)
         (void)turns_has(it, krbrelay_lane_release(&s->lanes[it->lane].ends, it->place)); /* else it is told */
     count_anew(s, it);
@@ -202,7 +202,7 @@ static void release(struct sender *s, struct sending *it)
 static void note_moved(struct sender *s, struct sending *it)
 {
     list_add(&s->dirty, it, &it->is_dirty);
-    if (it->end.list != 0 || it->kept.shard != (int32_t)it->of.shard)
+    if (it->end.list != 0 || it->stored.shard != (int32_t)it->of.shard)
         log_fact(LEVEL_WARNING, "session_elsewhere", field_text("session", it->of.name),
                  field_number("shard", it->of.shard),
                  field_text("text", "its shard is another list than before: what has no receipt is"
@@ -307,7 +307,7 @@ static struct sending *of_tag(const struct sender *s, uint32_t tag)
 static void note_next(struct sender *s, const struct sending *it)
 {
     struct sending *now = it->stream != NULL ? it->stream->now : NULL;
-    if (now != NULL && now != it && now->is_held && it->end.progress.carried == it->end.progress.next)
+    if (now != NULL && now != it && now->waits_to_open && it->end.progress.carried == it->end.progress.next)
         release(s, now);
 }
 
@@ -326,8 +326,8 @@ static int take_confirmed(struct sender *s, struct sending *it, const struct con
     uint32_t counts = 0;
     if (!turns_has(it, krbrelay_lane_confirmed(&s->lanes[it->lane].ends, it->place, of->number, of->offset, now, &counts)))
         return 0;
-    if (of->number >= it->answered)
-        it->answered = of->number + 1;
+    if (of->number >= it->answered_below)
+        it->answered_below = of->number + 1;
     if (!counts)
         count_anew(s, it);
     return (int)counts;

@@ -10,7 +10,7 @@ enum { CONFIRMED_WITHIN = 50, HAPPENS_ALL_THE_SAME = 4 };
 
 /* A frame in a shard, or a receipt, whose `turn` is above that of those before. */
 struct item { struct carried it; uint8_t *bytes; unsigned shard; uint64_t turn; };
-static struct items { struct item *at; size_t count, room; uint64_t incarnation; } shards[SHARDS], receipts;
+static struct items { struct item *at; size_t count, room; uint64_t list; } shards[SHARDS], receipts;
 static uint64_t turns;
 
 /* A confirmation that is under way. */
@@ -21,7 +21,7 @@ struct connection {
     struct carrier base;
     struct confirmation *confirmations;
     unsigned shard;
-    uint64_t after, incarnation; /* it reads that list of the shard from there on */
+    uint64_t after, list; /* it reads that list of the shard from there on */
     uint64_t heard;              /* receipts up to this turn */
 };
 
@@ -65,13 +65,13 @@ void frames_begin(void)
 {
     unsigned i;
     for (i = 0; i < SHARDS; i++)
-        shards[i].incarnation = 1 + drawn(1000000);
+        shards[i].list = 1 + drawn(1000000);
 }
 
 void frames_delete(unsigned shard)
 {
     cut(&shards[shard], shards[shard].count);
-    shards[shard].incarnation++;
+    shards[shard].list++;
     happened(KIND_DELETED, 1);
 }
 
@@ -141,19 +141,19 @@ static int fails(void)
 
 /* ---- The port, of who publishes */
 
-static enum answer incarnation_of(struct carrier *base, unsigned shard, uint64_t *incarnation, uint64_t *end)
+static enum answer find_list(struct carrier *base, unsigned shard, uint64_t *list, uint64_t *end)
 {
     struct connection *c = (struct connection *)base;
     if (fails())
         return ANSWER_FAULT;
-    c->incarnation = *incarnation = shards[shard].incarnation;
+    c->list = *list = shards[shard].list;
     *end = shards[shard].count;
     return ANSWER_DONE;
 }
 
-static enum answer make(struct carrier *base, unsigned shard, uint64_t *incarnation)
+static enum answer make(struct carrier *base, unsigned shard, uint64_t *list)
 {
-    *incarnation = shards[shard].incarnation;
+    *list = shards[shard].list;
     return ANSWER_DONE;
 }
 
@@ -244,7 +244,7 @@ static enum answer fetch(struct carrier *base, struct carried *list, size_t room
     *count = 0;
     if (fails())
         return ANSWER_FAULT;
-    if (c->incarnation != from->incarnation || c->after > from->count)
+    if (c->list != from->list || c->after > from->count)
         return ANSWER_CHANGED;
     while (*count < room && c->after < from->count)
         list[(*count)++] = from->at[c->after++].it;
@@ -347,7 +347,7 @@ struct carrier *carrier_open(const struct carrier_options *options)
     struct connection *c = calloc(1, sizeof *c);
     if (c == NULL)
         return NULL;
-    c->base = (struct carrier){ incarnation_of, make, publish, confirmed, seek, fetch, behind, acknowledge,
+    c->base = (struct carrier){ find_list, make, publish, confirmed, seek, fetch, behind, acknowledge,
                                 give_receipts, forget_receipt, never, never, close_carrier,
                                 not_due, NULL, -1 };
     return &c->base;

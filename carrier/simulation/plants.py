@@ -16,20 +16,20 @@ FOUND = {
     "what was dropped stays": ("uncommitted", 1, "LOST",
         ("shard_transaction.c", "return answer == ANSWER_ELSEWHERE ? KRBRELAY_FAILURE_FENCED : fault_of(s)", "answer = ANSWER_DONE")),
     "an early frame is taken for nobody's": ("cut", 1, "STANDS",
-        ("shard.c", "if (opens == ANSWER_FOUND)", "if (opens == ANSWER_FOUND && number <= of->drafted.number)")),
+        ("shard.c", "if (opens == ANSWER_FOUND)", "if (opens == ANSWER_FOUND && number <= of->end_row.number)")),
     "a repeat is taken for nobody's": ("lost+killed", 19, "STANDS",
-        ("shard.c", "if (opens == ANSWER_FOUND)", "if (opens == ANSWER_FOUND && number >= of->drafted.number)")),
+        ("shard.c", "if (opens == ANSWER_FOUND)", "if (opens == ANSWER_FOUND && number >= of->end_row.number)")),
     "a refused frame is taken for nobody's": ("skewed", 3, "UNTRUE",
-        ("shard.c", "if (opens == ANSWER_FOUND)", "if (opens == ANSWER_FOUND && number != of->drafted.number)")),
+        ("shard.c", "if (opens == ANSWER_FOUND)", "if (opens == ANSWER_FOUND && number != of->end_row.number)")),
     "a frame is accepted at any number": ("lost", 1, "OVERTAKEN", ("shard.c", "taken =", """\
-taken = &s->together.taken[place - s->together.first];
-    if (taken->answer == KRBRELAY_BADORDER && taken->number != UINT64_MAX && taken->number > of->drafted.number) {
-        of->drafted.number = taken->number;
+taken = &s->call.taken[place - s->call.first];
+    if (taken->answer == KRBRELAY_BADORDER && taken->number != UINT64_MAX && taken->number > of->end_row.number) {
+        of->end_row.number = taken->number;
         krbrelay_receiver_free(&of->receiver);
         of->is_made = 0;
         if (make_receiver(s, of) != ANSWER_DONE)
             return ANSWER_FAULT;
-        take_together(s, of, place, end);
+        take_call(s, of, place, end);
     }
     taken =""")),
     "one item in a read is skipped": ("calm", 1, "LATE", ("shard.c", "s->fetched =", """\
@@ -40,7 +40,7 @@ for (size_t i = 1; i < count; i++)
     "a session waits on after the one before it is done": ("tickets+kdc+skewed", 38, "LATE",
         ("sender_receipts.c", "it->end.done == it->end.progress.next)", "it->end.done > it->end.progress.next)")),
     "the session before is looked for once": ("tickets+keys", 17, "STANDS",
-        ("shard_load.c", "|| it->drafted.number == it->of.first ?", "?")),
+        ("shard_load.c", "|| it->end_row.number == it->of.first ?", "?")),
     "a second session after one is stored": ("forked+tickets+keys", 1, "DOUBLED", ("shard_open.c", """\
 OPENING_FORKED;
     }
@@ -64,7 +64,7 @@ answer == ANSWER_DONE && outbox_insert(&s->outbox) == ANSWER_DONE) {
     "an outbox takes transactions of two senders": ("taken_over", 1, "UNTRUE", ("outbox.c", "turn ==", "turn >="),
         ("outbox.c", "AND next = ?3", "AND ?3 IS NOT NULL")),
     "what was told is forgotten where a key is tried again": ("forked+tickets+keys", 103, "UNTOLD",
-        ("sender_sessions.c", " && it->stopped_at == 0", "")),
+        ("sender_sessions.c", " && it->stopped_from == 0", "")),
     "a failed text is put aside at once": ("refused_a_while+aside", 2, "ASIDE_EARLY",
         ("effects.c", "times >= chosen.tries;", "times > 0;")),
     "a failed text is never put aside": ("refused+aside", 1, "NOT_ASIDE",
@@ -73,14 +73,14 @@ answer == ANSWER_DONE && outbox_insert(&s->outbox) == ANSWER_DONE) {
 - 1 AND NOT EXISTS"
                       " (SELECT 1 FROM opened AS near JOIN frame ON frame.session = near.name"
                       " WHERE near.stream = ?1 AND near.turn IN (opened.turn, opened.turn + 1)) LIMIT""", "LIMIT")),
-    "a receiver idles for some minutes": ("lost", 1, "LATE", ("shard.c", "look_at_store(s)", """\
+    "a receiver idles for some minutes": ("lost", 1, "LATE", ("shard.c", "check_store(s)", """\
 if (nanoseconds() > 30 * SECOND && nanoseconds() < 500 * SECOND) {
         s->rests = milliseconds() + WAIT;
         return 0;
     }
-    look_at_store(s)""")),
+    check_store(s)""")),
     "a sender has no round each second": ("later", 1, "UNHEALTHY",
-        ("sender.c", "earlier(next, (s->looked + SECOND) / MILLISECOND + 1)", "next")),
+        ("sender.c", "earlier(next, (s->looked_at + SECOND) / MILLISECOND + 1)", "next")),
     # What is never deleted.
     "frames that are done stay": ("calm", 1, "KEPT",
         ("sender.c", "outbox_drop_done", "now.done == 0 && outbox_drop_done")),

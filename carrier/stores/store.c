@@ -120,13 +120,13 @@ enum answer store_sessions(struct store *store, const char *const *names, size_t
 /* Whether it moves a shard from one list to another. */
 static int is_other(const struct reached *from, const struct reached *to)
 {
-    return from->incarnation != 0 && from->incarnation != to->incarnation;
+    return from->list != 0 && from->list != to->list;
 }
 
 enum answer store_move(struct store *store, unsigned shard, const struct reached *from, const struct reached *to)
 {
-    const struct value values[] = { number_value(shard), number_value(from->incarnation), number_value(from->offset),
-                                    number_value(to->incarnation), number_value(to->offset) };
+    const struct value values[] = { number_value(shard), number_value(from->list), number_value(from->offset),
+                                    number_value(to->list), number_value(to->offset) };
     return store->run(store, store->sql[MOVE_SHARD], values, 5, ONE_ROW);
 }
 

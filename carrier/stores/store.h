@@ -23,7 +23,7 @@ struct store;
 
 /* How far a shard was read: up to this offset of the carrier's list with this number (carrier.h).
  * All zeros: nothing was read. */
-struct reached { uint64_t incarnation, offset; };
+struct reached { uint64_t list, offset; };
 
 /* What a session misses: nothing, a frame before one that came early, or one that was refused for a reason that
  * may pass; that is stored with libkrbrelay's answer. */

@@ -9,9 +9,8 @@
  * leaves nothing out. If it breaks that, or somebody writes into it, sessions stand still: no text
  * takes effect twice, out of order, or changed, since a frame opens at its own number alone.
  *
- * A shard that is deleted and made again is another list, whose offsets begin anew. Each list has
- * an incarnation, a number that no other one of its shard has, so that who stores an offset can
- * store with it of which list it is.
+ * A shard that is deleted and made again is another list, whose offsets begin anew. Each list has a number that no
+ * other one of its shard has, so that who stores an offset can store with it of which list it is.
  *
  * A carrier belongs to one thread. Its calls answer ANSWER_FAULT after a fault that may pass,
  * which they report on standard error; the caller tries again.
@@ -64,12 +63,12 @@ const char *carrier_file(const struct carrier_options *options);
 
 /* What a carrier does; the first member of each kind's own struct. */
 struct carrier {
-    /* The incarnation of a shard, 0 if there is none yet, and its last offset, about. */
-    enum answer (*incarnation)(struct carrier *, unsigned shard, uint64_t *incarnation, uint64_t *end);
+    /* The number of a shard's list, 0 if there is none yet, and its last offset, about. */
+    enum answer (*find_list)(struct carrier *, unsigned shard, uint64_t *list, uint64_t *end);
 
-    /* The incarnation for one who publishes: the shard is made unless it exists. As long as the carrier has no
+    /* The list for one who publishes: the shard is made unless it exists. As long as the carrier has no
      * reason to ask again, that costs nothing. */
-    enum answer (*make)(struct carrier *, unsigned shard, uint64_t *incarnation);
+    enum answer (*make)(struct carrier *, unsigned shard, uint64_t *list);
 
     /* Passes a frame to the carrier. It is stored when it is confirmed, with the caller's tag and
      * number. If it isn't confirmed within some seconds, it may be stored or not. A confirmation counts
@@ -80,11 +79,11 @@ struct carrier {
     /* Takes confirmations, up to room of them; *count says how many. */
     enum answer (*confirmed)(struct carrier *, struct confirmed *list, size_t room, size_t *count);
 
-    /* The next fetch begins after this offset of the shard, of the list that `incarnation` gave last. */
+    /* The next fetch begins after this offset of the shard, of the list that `find_list` gave last. */
     void (*seek)(struct carrier *, unsigned shard, uint64_t offset);
 
     /* Takes the next frames, up to room of them; *count says how many, also 0. ANSWER_CHANGED: it is another list, or
-     * ends before: ask for the incarnation, and seek. */
+     * ends before: find the list, and seek. */
     enum answer (*fetch)(struct carrier *, struct carried *list, size_t room, size_t *count);
 
     /* How many frames stand after the last that was fetched: about, and as far as that is known. */

@@ -303,7 +303,7 @@ struct carrier *nats_carrier_open(const struct carrier_options *options)
     natsStatus status;
     if (c == NULL)
         return NULL;
-    c->base = (struct carrier){ nats_incarnation, nats_make, nats_publish, nats_confirmed, nats_seek, nats_fetch,
+    c->base = (struct carrier){ nats_find_list, nats_make, nats_publish, nats_confirmed, nats_seek, nats_fetch,
                                 nats_behind, nats_acknowledge, nats_receipts, nats_forget, is_away, is_closed, close_it,
                                 nats_due, NULL, -1 };
     c->is_secure = is_secure(options);

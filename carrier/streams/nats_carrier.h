@@ -1,6 +1,6 @@
 /* The parts of the carrier over NATS JetStream. Shard N is the stream KRB_N with the subjects
- * krb.N.SESSION, an offset is a sequence number of the stream, and its incarnation is the time at
- * which it was made.
+ * krb.N.SESSION, an offset is a sequence number of the stream, and the list's number is the time
+ * at which it was made.
  *
  * libnats waits by the wall clock, so no part of it is asked to wait: these read its socket, and wait by themselves. */
 #ifndef NATS_CARRIER_H
@@ -37,9 +37,9 @@ struct nats_carrier {
     natsSubscription *replies;
     unsigned long asked;
     int patience, answered;
-    /* Of each shard to which frames are published, and of the stream of a receiver's receipts: its incarnation, whether
+    /* Of each shard to which frames are published, and of the stream of a receiver's receipts: its list, whether
      * it is known, the question about it that is under way, or 0, and the pause until the next one. */
-    struct { uint64_t incarnation; unsigned long question; struct krbrelay_pause pause; int is_known; }
+    struct { uint64_t list; unsigned long question; struct krbrelay_pause pause; int is_known; }
         made[NATS_RECEIPTS + 1];
     unsigned long questions;            /* so many were asked, */
     unsigned asked_count;               /* and are under way */
@@ -48,7 +48,7 @@ struct nats_carrier {
     /* The reader: which list it is, where it stands, how many frames its consumer has delivered, and the frames of
      * the last fetch. */
     unsigned shard;
-    uint64_t incarnation, after, delivered;
+    uint64_t list, after, delivered;
     uint64_t known;                     /* it has been here: what is gone before it was told */
     uint64_t pending;                   /* frames after the last, when it was delivered */
     uint64_t heard;                     /* when the consumer said something last, in milliseconds */
@@ -148,14 +148,14 @@ void nats_read_description(natsMsg *message, char text[NATS_TEXT]);
 void nats_look_for(struct nats_carrier *c, unsigned stream);
 int nats_read_one(struct nats_carrier *c, struct confirmed *list, size_t *count);
 
-enum answer nats_make(struct carrier *base, unsigned shard, uint64_t *incarnation);
+enum answer nats_make(struct carrier *base, unsigned shard, uint64_t *list);
 enum answer nats_publish(struct carrier *base, unsigned shard, const char *session, uint32_t tag,
                          uint64_t number, const uint8_t *frame, size_t len);
 enum answer nats_confirmed(struct carrier *base, struct confirmed *list, size_t room, size_t *count);
 
 /* ---- nats_reader.c */
 
-enum answer nats_incarnation(struct carrier *base, unsigned shard, uint64_t *incarnation, uint64_t *end);
+enum answer nats_find_list(struct carrier *base, unsigned shard, uint64_t *list, uint64_t *end);
 void nats_seek(struct carrier *base, unsigned shard, uint64_t offset);
 enum answer nats_fetch(struct carrier *base, struct carried *list, size_t room, size_t *count);
 uint64_t nats_due(struct carrier *base);

@@ -64,11 +64,11 @@ void nats_look_for(struct nats_carrier *c, unsigned shard)
     ask(c, shard, "STREAM.INFO", "");
 }
 
-enum answer nats_make(struct carrier *base, unsigned shard, uint64_t *incarnation)
+enum answer nats_make(struct carrier *base, unsigned shard, uint64_t *list)
 {
     struct nats_carrier *c = (struct nats_carrier *)base;
     nats_look_for(c, shard);
-    *incarnation = c->made[shard].incarnation;
+    *list = c->made[shard].list;
     return c->made[shard].is_known ? ANSWER_DONE : ANSWER_FAULT;
 }
 
@@ -105,7 +105,7 @@ static void read_stream(struct nats_carrier *c, natsMsg *message, unsigned shard
         return;
     }
     if (status == NATS_OK)
-        c->made[shard].incarnation = it.created;
+        c->made[shard].list = it.created;
     else
         report_unmade(c, message, shard);
     end_question(c, shard);
@@ -123,7 +123,7 @@ enum answer nats_publish(struct carrier *base, unsigned shard, const char *sessi
     natsStatus status;
     write_whole(subject, sizeof subject, "krb.%u.%s", shard, session);
     write_whole(reply, sizeof reply, "%s.%llu.%u.%lu.%llu", (const char *)c->inbox,
-                (unsigned long long)c->made[shard].incarnation, shard, (unsigned long)tag,
+                (unsigned long long)c->made[shard].list, shard, (unsigned long)tag,
                 (unsigned long long)number);
     status = natsConnection_PublishRequest(c->connection, subject, reply, frame, (int)len);
     nats_let_leave(c);
@@ -154,7 +154,7 @@ static int read_message(struct nats_carrier *c, natsMsg *message, struct confirm
 {
     const char *place = natsMsg_GetSubject(message) + strlen((const char *)c->inbox);
     unsigned long tag, question;
-    unsigned long long incarnation, number;
+    unsigned long long list, number;
     unsigned shard;
     int used = 0;
     if (sscanf(place, ".%lu.%u.stream.0%n", &question, &shard, &used) == 2 && used > 0) {
@@ -162,8 +162,8 @@ static int read_message(struct nats_carrier *c, natsMsg *message, struct confirm
             read_stream(c, message, shard);
         return 0;
     }
-    if (sscanf(place, ".%llu.%u.%lu.%llu", &incarnation, &shard, &tag, &number) != 4
-        || shard >= CARRIER_SHARDS || incarnation != c->made[shard].incarnation)
+    if (sscanf(place, ".%llu.%u.%lu.%llu", &list, &shard, &tag, &number) != 4
+        || shard >= CARRIER_SHARDS || list != c->made[shard].list)
         return 0;
     *it = (struct confirmed){ (uint32_t)tag, number, 0 };
     return read_answer(message, shard, it);

@@ -56,18 +56,18 @@ static natsStatus ask_shard(struct nats_carrier *c, unsigned shard, struct nats_
     return status;
 }
 
-enum answer nats_incarnation(struct carrier *base, unsigned shard, uint64_t *incarnation, uint64_t *end)
+enum answer nats_find_list(struct carrier *base, unsigned shard, uint64_t *list, uint64_t *end)
 {
     struct nats_carrier *c = (struct nats_carrier *)base;
     struct nats_stream it;
     natsStatus status;
     nats_look_around(c);
     status = ask_shard(c, shard, &it);
-    *incarnation = status == NATS_OK ? it.created : 0;
+    *list = status == NATS_OK ? it.created : 0;
     *end = status == NATS_OK ? it.last : 0;
-    if (c->incarnation != *incarnation)
+    if (c->list != *list)
         c->known = 0;
-    c->incarnation = *incarnation;
+    c->list = *list;
     return status == NATS_OK || status == NATS_NOT_FOUND ? ANSWER_DONE : ANSWER_FAULT;
 }
 
@@ -80,9 +80,9 @@ static enum answer check_stream(struct nats_carrier *c)
     write_whole(subject, sizeof subject, "krb.%u.*", c->shard);
     c->has_others = strcmp(it.subject, subject) != 0;
     if (status == NATS_OK)
-        return (c->incarnation != 0 && it.created != c->incarnation) || it.last < c->after
+        return (c->list != 0 && it.created != c->list) || it.last < c->after
                ? ANSWER_CHANGED : ANSWER_DONE;
-    return status == NATS_NOT_FOUND && c->incarnation != 0 ? ANSWER_CHANGED : ANSWER_FAULT;
+    return status == NATS_NOT_FOUND && c->list != 0 ? ANSWER_CHANGED : ANSWER_FAULT;
 }
 
 /* A consumer of the stream that delivers all after the place where the reader stands. It has a filter only where the

@@ -1,5 +1,5 @@
 /* A carrier of one SQLite file, which needs no server: for one machine, and to begin with. All its
- * shards have one incarnation, which is drawn when the file is made. */
+ * shards are one list, whose number is drawn when the file is made. */
 #include "carrier.h"
 #include "database.h"
 #include "log.h"
@@ -19,7 +19,7 @@ struct sqlite_carrier {
     sqlite3 *db;
     struct statement statements[STATEMENTS];
     struct rows added;     /* frames that were published, and aren't inserted yet */
-    uint64_t incarnation;
+    uint64_t list;
     /* What was published since the last confirmations, in one transaction. */
     struct confirmed pending[PENDING];
     size_t stored, confirmed; /* so many of them are pending, so many of these are confirmed */
@@ -59,7 +59,7 @@ static const char *const sql[STATEMENTS] = {
 
 static const char insert[] = "INSERT INTO carried (shard, session, frame) VALUES (?, ?, ?)";
 
-static enum answer incarnation(struct carrier *base, unsigned shard, uint64_t *incarnation, uint64_t *end)
+static enum answer find_list(struct carrier *base, unsigned shard, uint64_t *list, uint64_t *end)
 {
     struct sqlite_carrier *c = (struct sqlite_carrier *)base;
     struct statement *select = &c->statements[SELECT_END];
@@ -68,15 +68,15 @@ static enum answer incarnation(struct carrier *base, unsigned shard, uint64_t *i
     has_row = step_row(select) == ANSWER_FOUND;
     *end = has_row ? (uint64_t)sqlite3_column_int64(select->at, 0) : 0;
     end_rows(select);
-    *incarnation = c->incarnation;
+    *list = c->list;
     return has_row ? ANSWER_DONE : ANSWER_FAULT;
 }
 
 /* The file is there, so each of its shards is. */
-static enum answer make(struct carrier *base, unsigned shard, uint64_t *incarnation)
+static enum answer make(struct carrier *base, unsigned shard, uint64_t *list)
 {
     (void)shard;
-    *incarnation = ((struct sqlite_carrier *)base)->incarnation;
+    *list = ((struct sqlite_carrier *)base)->list;
     return ANSWER_DONE;
 }
 
@@ -318,9 +318,9 @@ static enum answer open_it(struct sqlite_carrier *c, const char *path)
         || prepare_rows(c->db, &c->added, insert) != ANSWER_DONE)
         return ANSWER_FAULT;
     if (prepare(c->db, &select, "SELECT number FROM incarnation") == ANSWER_DONE && step_row(&select) == ANSWER_FOUND)
-        c->incarnation = (uint64_t)sqlite3_column_int64(select.at, 0);
+        c->list = (uint64_t)sqlite3_column_int64(select.at, 0);
     finalize(&select, 1);
-    return c->incarnation > 0 ? ANSWER_DONE : ANSWER_FAULT;
+    return c->list > 0 ? ANSWER_DONE : ANSWER_FAULT;
 }
 
 static uint64_t not_due(struct carrier *base)
@@ -334,7 +334,7 @@ struct carrier *sqlite_carrier_open(const char *path)
     struct sqlite_carrier *c = calloc(1, sizeof *c);
     if (c == NULL)
         return NULL;
-    c->base = (struct carrier){ incarnation, make, publish, confirmed, seek, fetch, behind, acknowledge, receipts, forget,
+    c->base = (struct carrier){ find_list, make, publish, confirmed, seek, fetch, behind, acknowledge, receipts, forget,
                                 never, never, close_it, not_due, path, -1 };
     if (open_it(c, path) == ANSWER_DONE)
         return &c->base;

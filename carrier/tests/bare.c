@@ -140,7 +140,7 @@ static enum answer receive_all(struct bare *b)
     uint64_t end = 0;
     enum answer answer = ANSWER_DONE;
     size_t count = 0;
-    while (b->list == 0 && !is_ending() && b->carrier->incarnation(b->carrier, 0, &b->list, &end) == ANSWER_DONE)
+    while (b->list == 0 && !is_ending() && b->carrier->find_list(b->carrier, 0, &b->list, &end) == ANSWER_DONE)
         pause_milliseconds(SHORT);
     b->carrier->seek(b->carrier, 0, 0);
     while (answer == ANSWER_DONE && !is_ending()) {

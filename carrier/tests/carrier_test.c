@@ -149,12 +149,12 @@ static void read_from(struct carrier *reader, unsigned i, uint64_t offset)
     check(reader->fetch(reader, list, 64, &left) == ANSWER_DONE && left == 0, "and no more");
 }
 
-/* Each reader of a shard gets the same incarnation, and nothing stands after the end. */
+/* Each reader of a shard gets the same list, and nothing stands after the end. */
 static void check_shards(struct carrier *c, struct carrier *reader)
 {
     uint64_t made = 0, asked = 0, behind = 1, end = 0;
     check(c->make(c, SHARD, &made) == ANSWER_DONE && made > 0, "it is made");
-    check(reader->incarnation(reader, SHARD, &asked, &end) == ANSWER_DONE && asked == made, "its incarnation");
+    check(reader->find_list(reader, SHARD, &asked, &end) == ANSWER_DONE && asked == made, "its incarnation");
     check(end == offsets[FRAMES - 2], "its last offset");
     read_from(reader, 2, offsets[0]);
     check(reader->behind(reader, &behind) == ANSWER_DONE && behind == 0, "nothing stands after the end");

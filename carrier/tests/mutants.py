@@ -79,7 +79,7 @@ TICKET_EDITS = {
     "each shard goes on with a session": ("shard_open.c", "int is_here = it->shard == sought->shard->number;",
                                           "int is_here = it->shard < CARRIER_SHARDS;"),
     "a stream goes on without its key": ("sender_openings.c", """\
-        stream->left = STREAM_LEFT; /* so that no later text of it is taken before this one */
+        stream->key = STREAM_UNREADABLE; /* so that no later text of it is taken before this one */
 """, ""),
     "no session waits for the one before": ("shard.c", "&& shard_judge(s, of) != KRBRELAY_JUDGED_BEGINS;",
                                             "&& shard_judge(s, of) > KRBRELAY_JUDGED_FORKED;"),

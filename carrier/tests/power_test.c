@@ -123,9 +123,9 @@ static void work(uint64_t first, uint64_t end)
     struct outbox outbox = { 0 };
     struct store *store = store_open(store_path, SHARD);
     struct carrier *carrier = carrier_open(&options);
-    uint64_t number, incarnation;
+    uint64_t number, list;
     check(outbox_open(&outbox, outbox_path) == ANSWER_DONE && store != NULL && carrier != NULL, "all are opened");
-    check(carrier->make(carrier, SHARD, &incarnation) == ANSWER_DONE, "there is a shard");
+    check(carrier->make(carrier, SHARD, &list) == ANSWER_DONE, "there is a shard");
     check(krbrelay_sending_load(&sending.end, first, first, 0, first, 0, 0) == KRBRELAY_OK, "its end begins");
     for (number = first; number < end; number++) {
         put_text(&outbox, number);
@@ -225,18 +225,18 @@ static void find_store(void)
 static void find_carrier(void)
 {
     const struct carrier_options options = { .where = carrier_path };
-    struct carried list[TEXTS + 1];
+    struct carried found[TEXTS + 1];
     struct carrier *carrier = carrier_open(&options);
-    uint64_t incarnation = 0, end = 0, i;
+    uint64_t list = 0, end = 0, i;
     size_t count = 0;
     check(carrier != NULL
-          && carrier->incarnation(carrier, SHARD, &incarnation, &end) == ANSWER_DONE, "the carrier opens");
+          && carrier->find_list(carrier, SHARD, &list, &end) == ANSWER_DONE, "the carrier opens");
     carrier->seek(carrier, SHARD, 0);
-    check(carrier->fetch(carrier, list, TEXTS + 1, &count) == ANSWER_DONE
+    check(carrier->fetch(carrier, found, TEXTS + 1, &count) == ANSWER_DONE
           && count >= last_told(CONFIRMED), "what was confirmed is there");
     for (i = 0; i < count; i++) {
         uint64_t number = i + 1;
-        check(list[i].len == sizeof number && memcmp(list[i].frame, &number, sizeof number) == 0,
+        check(found[i].len == sizeof number && memcmp(found[i].frame, &number, sizeof number) == 0,
               "in its order, as it was");
     }
     carrier->close(carrier);

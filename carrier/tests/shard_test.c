@@ -368,7 +368,7 @@ static void test_store_behind(struct shard *shard, struct carrier *carrier, sqli
     check(behind == 0 && shard->counts.repeats == repeats + 1, "a store that is as it was isn't behind");
     check(told(store, "SELECT offset FROM shard WHERE shard = 3") == offset + 1, "it has one frame more");
     change(store, "UPDATE shard SET offset = offset - 1 WHERE shard = 3");
-    shard->looked = 0;
+    shard->looked_at = 0;
     take(shard);
     check(behind == 1, "the receiver says once that it has gone back");
     check(shard->counts.repeats == repeats + 2, "and its frame is read again");
@@ -504,7 +504,7 @@ int main(int count, char **words)
     struct sessions *sessions;
     struct carrier *carrier;
     sqlite3 *asked = NULL;
-    uint64_t incarnation = 0;
+    uint64_t list = 0;
     umask(077); /* as the programs: databases are their owner's alone */
     check(count == 2, "shard_test FOLDER");
     snprintf(store, sizeof store, "sqlite:%s/shard.db", words[1]);
@@ -512,7 +512,7 @@ int main(int count, char **words)
     options.carrier.where = where;
     sessions = sessions_in(words[1]);
     carrier = carrier_open(&options.carrier);
-    check(carrier != NULL && carrier->make(carrier, SHARD, &incarnation) == ANSWER_DONE, "a shard is made");
+    check(carrier != NULL && carrier->make(carrier, SHARD, &list) == ANSWER_DONE, "a shard is made");
     check(effects_choose(NULL, 0) == ANSWER_DONE, "the effect is of effect.c");
     check(shard_start(&shard) == ANSWER_DONE, "it is opened");
     shard_use(&shard, sessions);

@@ -76,7 +76,7 @@ static void stands(struct store *s, uint64_t offset, uint64_t number, uint32_t c
     struct demand demand = { .next = FIRST };
     struct reached reached;
     check(store_reached(s, SHARD, &reached) == ANSWER_DONE && read_session(s, &demand) == ANSWER_DONE, "read");
-    check(reached.offset == offset && reached.incarnation == (offset > 0 ? LIST : 0), what);
+    check(reached.offset == offset && reached.list == (offset > 0 ? LIST : 0), what);
     check(demand.next == number && demand.closed == closed, what);
     check(demand.is_stored == (number != FIRST), "whether it is stored");
     check(!demand.is_stored || (demand.at == offset && demand.shard == SHARD), "its place");
@@ -141,7 +141,7 @@ static void test_other_list(struct store *one, struct store *other)
               && one->commit(one) == ANSWER_DONE, "it misses something");
     check(store_begin(one, SHARD, &from, &to) == ANSWER_DONE && one->commit(one) == ANSWER_DONE, "another list");
     check(store_reached(other, SHARD, &reached) == ANSWER_DONE && read_session(other, &found) == ANSWER_DONE, "read");
-    check(reached.incarnation == LIST + 1 && reached.offset == 3, "it is stored");
+    check(reached.list == LIST + 1 && reached.offset == 3, "it is stored");
     check(found.at == 0 && found.missed == MISSED_NOTHING && found.next == 9, "its place");
     check(store_begin(one, SHARD, &to, &from) == ANSWER_DONE && store_advance(one, name, &reset, &fine) == ANSWER_DONE
               && one->commit(one) == ANSWER_DONE, "back again");

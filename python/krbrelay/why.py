@@ -21,8 +21,8 @@ CAUSES = {
     Code.BAD_INTEGRITY: "another key (the ticket's where there is a subkey, the other end's "
                         "subkey, an older session's), or bytes that were changed on the way",
     Code.SKEW: "the clocks of the two ends differ, or the message was under way for too long",
-    Code.BADADDR: "address translation, an end with several addresses, or a message that came "
-                  "back to its maker",
+    Code.BADADDR: "address translation, an end with several addresses, or a message that came back "
+                  "to its maker",
     Code.BADVERSION: "changed bytes, or no message of Kerberos 5",
     Code.MSG_TYPE: "one end calls mk_safe and the other one rd_priv, or changed bytes",
     Code.MODIFIED: "another key, or bytes that were changed on the way",
@@ -30,8 +30,8 @@ CAUSES = {
                    "began at different numbers",
     Code.INAPP_CKSUM: "the key is of another encryption type, or the maker takes another checksum",
     Code.FIELD_TOOLONG: "the message is longer than this library takes",
-    Code.MALFORMED: "the message was cut or changed, or bytes of the protocol around it are "
-                    "taken for a part of it",
+    Code.MALFORMED: "the message was cut or changed, or bytes of the protocol around it are taken "
+                    "for a part of it",
 }
 OF_ANOTHER_TYPE = (Code.ETYPE_NOSUPP, Code.INAPP_CKSUM)
 CIPHER_LEAST, CODE_SIZE = 28, 12
