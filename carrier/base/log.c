@@ -21,7 +21,7 @@ static struct { pthread_mutex_t lock; struct kind kinds[KINDS]; unsigned count; 
 /* A line that is written: what there is no room for is left out. */
 struct line { char text[LINE]; size_t len; };
 
-static void add(struct line *line, const char *text)
+static void add_words(struct line *line, const char *text)
 {
     size_t room = sizeof line->text - 2 - line->len, len = strlen(text); /* a quote, and the end */
     if (len > room)
@@ -37,7 +37,7 @@ static void add_byte(struct line *line, unsigned char byte)
         write_whole(text, sizeof text, "\\%c", byte);
     else if (byte < ' ' || byte > '~')
         write_whole(text, sizeof text, "\\x%02x", byte);
-    add(line, text);
+    add_words(line, text);
 }
 
 /* Ends of lines at the end, as libraries have them, aren't a part of it. */
@@ -56,19 +56,19 @@ static void add_text(struct line *line, const char *text)
     size_t i, len = length_of(text);
     int is_quoted = len == 0 || strspn(text, plain) < len;
     if (is_quoted)
-        add(line, "\"");
+        add_words(line, "\"");
     for (i = 0; i < len; i++)
         add_byte(line, (unsigned char)text[i]);
     if (is_quoted)
-        add(line, "\"");
+        add_words(line, "\"");
 }
 
 static void add_field(struct line *line, const struct field *it)
 {
     char digits[32];
-    add(line, " ");
-    add(line, it->key);
-    add(line, "=");
+    add_words(line, " ");
+    add_words(line, it->key);
+    add_words(line, "=");
     if (it->kind == FIELD_TEXT) {
         add_text(line, it->text != NULL ? it->text : "");
         return;
@@ -77,7 +77,7 @@ static void add_field(struct line *line, const struct field *it)
         write_whole(digits, sizeof digits, "%.3f", (double)it->number / 1e9);
     else
         write_whole(digits, sizeof digits, "%llu", (unsigned long long)it->number);
-    add(line, digits);
+    add_words(line, digits);
 }
 
 static void add_head(struct line *line, enum level level, const char *event)
@@ -92,8 +92,8 @@ static void add_head(struct line *line, enum level level, const char *event)
         date[0] = 0;
     write_whole(text, sizeof text, "time=%s.%03uZ level=%s event=", date, now.microseconds / 1000,
                 levels[level]);
-    add(line, text);
-    add(line, event);
+    add_words(line, text);
+    add_words(line, event);
 }
 
 static void print(enum level level, const char *event, const struct field *fields,

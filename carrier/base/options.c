@@ -54,7 +54,7 @@ static void put_initial(const struct usage *usage, void *options)
             put_number(&usage->rows[i], usage->rows[i].initial, options);
 }
 
-static void take(const char *program, const struct option_row *row, const char *word, void *options)
+static void take_option(const char *program, const struct option_row *row, const char *word, void *options)
 {
     void *at = (char *)options + row->at;
     const char *text = row->kind == OPTION_FILE && *word == 0 ? NULL : word;
@@ -96,7 +96,7 @@ void options_read(const struct usage *usage, int count, char **words, void *opti
         case HELP: end_with_usage(usage, 0);
         case VERSION: end_with_version(usage->program);
         case '?': options_refuse(usage);
-        default: take(usage->program, &usage->rows[letter - FIRST], optarg, options);
+        default: take_option(usage->program, &usage->rows[letter - FIRST], optarg, options);
         }
     if (optind != count)
         options_refuse(usage);

@@ -136,9 +136,9 @@ static enum answer fail(struct child *child, const char *why)
 
 /* ---- A line for it */
 
-static void add(FILE *to, const char *format, ...)
+static void print_to(FILE *to, const char *format, ...)
     __attribute__((format(printf, 2, 3)));
-static void add(FILE *to, const char *format, ...)
+static void print_to(FILE *to, const char *format, ...)
 {
     va_list values;
     va_start(values, format);
@@ -148,16 +148,16 @@ static void add(FILE *to, const char *format, ...)
 
 static void add_name(FILE *to, const char *name, const char *text)
 {
-    add(to, "\"%s\":\"", name);
+    print_to(to, "\"%s\":\"", name);
     for (; *text != 0; text++) {
         if (*text == '"' || *text == '\\')
-            add(to, "\\%c", *text);
+            print_to(to, "\\%c", *text);
         else if ((unsigned char)*text < ' ')
-            add(to, "\\u%04x", (unsigned)(unsigned char)*text);
+            print_to(to, "\\u%04x", (unsigned)(unsigned char)*text);
         else
-            add(to, "%c", *text);
+            print_to(to, "%c", *text);
     }
-    add(to, "\",");
+    print_to(to, "\",");
 }
 
 /* The line, which the caller frees; NULL if there is no memory. */
@@ -169,14 +169,14 @@ static char *line_of(const struct arrived *it, size_t *len)
     int is_whole;
     if (to == NULL)
         return NULL;
-    add(to, "{");
+    print_to(to, "{");
     add_name(to, "session", it->session);
     add_name(to, "client", it->client);
     add_name(to, "stream", it->stream);
-    add(to, "\"number\":%llu,\"part\":%u,\"text\":\"", (unsigned long long)it->number, it->part);
+    print_to(to, "\"number\":%llu,\"part\":%u,\"text\":\"", (unsigned long long)it->number, it->part);
     for (i = 0; i < it->len; i++)
-        add(to, "%02x", (unsigned)it->text[i]);
-    add(to, "\"}\n");
+        print_to(to, "%02x", (unsigned)it->text[i]);
+    print_to(to, "\"}\n");
     is_whole = ferror(to) == 0;
     if (fclose(to) == 0 && is_whole)
         return line;

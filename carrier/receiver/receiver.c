@@ -262,7 +262,7 @@ static void watch(void)
 }
 
 /* 0, or 1 after a fault at the start. */
-static int work(void)
+static int serve_shards(void)
 {
     int is_fine;
     waiting_begin(&waiting, 1);
@@ -391,7 +391,7 @@ int main(int count, char **words)
     sessions = options.sessions != NULL ? sessions_read(options.sessions) : sessions_empty();
     if (sessions == NULL)
         return 1;
-    status = work();
+    status = serve_shards();
     sessions_forget(sessions);
     log_end();
     return status;

@@ -417,7 +417,7 @@ static enum answer fault_unless(int answer)
 }
 
 /* Takes one frame of a session, within a transaction of so many. */
-static enum answer take(struct shard *s, struct receiving *of, int place, int end, int is_alone)
+static enum answer take_frame(struct shard *s, struct receiving *of, int place, int end, int is_alone)
 {
     const struct carried *it = &s->frames[place];
     const struct krbrelay_taken *taken;
@@ -444,7 +444,7 @@ enum answer shard_take(struct shard *s, int place, int end, int is_alone)
 {
     s->place = place;
     if (s->of_frames[place] != NULL)
-        return take(s, s->of_frames[place], place, end, is_alone);
+        return take_frame(s, s->of_frames[place], place, end, is_alone);
     take_unknown(s, &s->frames[place]);
     return krbrelay_shard_pass(&s->ends, s->frames[place].offset) == KRBRELAY_OK ? ANSWER_DONE : ANSWER_FAULT;
 }

@@ -96,7 +96,7 @@ void shard_forget(struct shard *s)
 /* ---- What the store has of them */
 
 /* What is known of the session isn't of this turn. */
-static void ask(struct shard *s, struct receiving *it)
+static void note_asked(struct shard *s, struct receiving *it)
 {
     if (it->loading == s->loading)
         return;
@@ -115,7 +115,7 @@ static enum answer ask_before(struct shard *s, const struct receiving *it)
         return it->opened == NULL ? ANSWER_DONE : ANSWER_FAULT;
     if (before == NULL || before->loading == s->loading)
         return ANSWER_DONE;
-    ask(s, before);
+    note_asked(s, before);
     return ANSWER_DONE;
 }
 
@@ -188,7 +188,7 @@ static enum answer ask_store(struct shard *s)
 static enum answer ask_for(struct shard *s, struct receiving *it)
 {
     int is_new = it->loading != s->loading;
-    ask(s, it);
+    note_asked(s, it);
     return is_new || it->end_row.number == it->of.first ? ask_before(s, it) : ANSWER_DONE;
 }
 

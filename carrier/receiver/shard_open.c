@@ -8,7 +8,7 @@
 #include <string.h>
 
 /* Adds a session that began by a ticket. NULL if there is no memory. */
-static struct receiving *add(struct shard *s, const struct opened *it)
+static struct receiving *add_opened(struct shard *s, const struct opened *it)
 {
     struct opened *copy = malloc(sizeof *copy);
     struct receiving *added = NULL;
@@ -48,7 +48,7 @@ static enum answer note_found(void *given, const struct opened *it)
     int is_here = it->shard == sought->shard->number;
     if (!is_here && (sought->after == NULL || !is_same_stream(it, sought->after)))
         return ANSWER_DONE;
-    sought->found = add(sought->shard, it);
+    sought->found = add_opened(sought->shard, it);
     return sought->found != NULL ? ANSWER_DONE : ANSWER_FAULT;
 }
 
@@ -160,7 +160,7 @@ static enum answer open_session(struct shard *s, const struct carried *it, struc
     if (answer > OPENING_OK)
         done = refuse(s, it, answer, &opened);
     else if (answer == OPENING_OK) {
-        *found = add(s, &opened);
+        *found = add_opened(s, &opened);
         done = *found != NULL ? ANSWER_FOUND : ANSWER_FAULT;
     }
     explicit_bzero(&opened, sizeof opened);

@@ -139,7 +139,7 @@ void threads_finish(struct served *it)
 
 /* ---- A thread */
 
-static void *work(void *given)
+static void *serve_shard(void *given)
 {
     struct thread *it = given;
     struct served *served = &it->served;
@@ -218,7 +218,7 @@ int threads_start(unsigned shard)
     threads_prepare(&it->served, shard);
     waiting_begin(&it->waiting, 0);
     service_expect(shard);
-    if (pthread_create(&it->thread, NULL, work, it) == 0) {
+    if (pthread_create(&it->thread, NULL, serve_shard, it) == 0) {
         serving.shards[serving.count++] = shard;
         return 1;
     }

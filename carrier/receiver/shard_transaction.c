@@ -83,7 +83,7 @@ static enum answer note_stored(struct shard *s)
 /* ---- The store's transaction */
 
 /* It moves the shard at first, so that another receiver is noticed before an effect is asked for. */
-static enum answer begin(struct shard *s, uint64_t to)
+static enum answer begin_transaction(struct shard *s, uint64_t to)
 {
     const struct reached from = { s->reading.stored.list, s->reading.stored.offset };
     const struct reached reached = { s->reading.read.list, to };
@@ -109,7 +109,7 @@ static uint32_t open_store(struct shard *s, int end, uint32_t alone)
     if (effects_are_outside())
         return ask_fence(s);
     s->is_begun = 1;
-    if (begin(s, s->frames[end - 1].offset) != ANSWER_DONE)
+    if (begin_transaction(s, s->frames[end - 1].offset) != ANSWER_DONE)
         return KRBRELAY_FAILURE_FAULT;
     if (alone && s->store->checks_at_once != NULL
         && s->store->run(s->store, s->store->checks_at_once, NULL, 0, ANY_ROWS) != ANSWER_DONE)
@@ -122,7 +122,7 @@ enum answer shard_begin_late(struct shard *s)
     if (s->is_begun)
         return ANSWER_DONE;
     s->is_begun = 1;
-    return begin(s, s->frames[s->place].offset);
+    return begin_transaction(s, s->frames[s->place].offset);
 }
 
 /* Moves the shard to where the frames that were taken end. */

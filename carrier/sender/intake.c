@@ -51,7 +51,7 @@ static int has_room(const struct sender *s, const struct sending *it)
 }
 
 /* Takes a text, if its turn is now: *is_taken says so. */
-static enum answer take(struct sender *s, struct sending **it, const struct waiting_text *text,
+static enum answer take_text(struct sender *s, struct sending **it, const struct waiting_text *text,
                         int *is_taken)
 {
     enum answer answer;
@@ -91,7 +91,7 @@ static enum answer look_at(struct sender *s, const struct waiting_text *text, st
         return tell_unknown(s, text->session) == ANSWER_DONE ? ANSWER_DONE : ANSWER_FAULT;
     if ((*it)->has_texts || is_left(*it, text))
         return ANSWER_DONE;
-    return take(s, it, text, is_taken);
+    return take_text(s, it, text, is_taken);
 }
 
 /* Looks at the texts after those that were looked at. */
@@ -138,7 +138,7 @@ static enum answer take_waiting(struct sender *s, struct sending **it, size_t *l
     while (answer == ANSWER_DONE && is_taken && (row = outbox_next_text(select, &text)) == ANSWER_FOUND) {
         if (is_left(*it, &text))
             break;
-        answer = take(s, it, &text, &is_taken);
+        answer = take_text(s, it, &text, &is_taken);
         if (is_taken)
             note_run(&runs, text.id, last >= 0 && text.id == last + 1);
         last = text.id;

@@ -96,7 +96,7 @@ static enum answer serve(struct sender *s)
     return answer == ANSWER_AGAIN ? ANSWER_DONE : answer;
 }
 
-static int work(struct sender *s)
+static int run_sender(struct sender *s)
 {
     uint64_t began = nanoseconds();
     size_t held;
@@ -136,5 +136,5 @@ int main(int count, char **words)
     end_by_signals();
     if (sender.options.kerberos.keytab != NULL)
         note_hangups();
-    return work(&sender);
+    return run_sender(&sender);
 }

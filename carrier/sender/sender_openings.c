@@ -17,7 +17,7 @@ enum { MOST_TRIES = 7 };             /* doubled so often at most: up to some fou
 
 /* Adds a session that is stored, or that begins: then it takes the wrapped key. NULL after a fault of the outbox, or
  * out of memory. */
-static struct sending *add(struct sender *s, struct stream *stream, const struct begun *it,
+static struct sending *add_session(struct sender *s, struct stream *stream, const struct begun *it,
                            struct wrapped *wrapped)
 {
     struct begun *copy = malloc(sizeof *copy);
@@ -60,7 +60,7 @@ static enum answer add_new(struct sender *s, struct stream *stream, struct begun
     }
     can_wrap = outbox_wrap(s->kerberos, it, wrapped) == 0;
     if (can_wrap)
-        *added = add(s, stream, it, wrapped);
+        *added = add_session(s, stream, it, wrapped);
     if (*added != NULL)
         return ANSWER_FOUND;
     free(wrapped);
@@ -69,7 +69,8 @@ static enum answer add_new(struct sender *s, struct stream *stream, struct begun
 
 /* Begins the next session of a stream. Its key is wrapped before anything is sealed under it, so that no transaction,
  * which has texts of other sessions too, waits for the keytab. Answers as add_new. */
-static enum answer begin(struct sender *s, struct stream *stream, const struct begun *last, struct sending **added)
+static enum answer begin_session(struct sender *s, struct stream *stream, const struct begun *last,
+                                 struct sending **added)
 {
     struct begun it = { 0 };
     enum answer answer;
@@ -92,14 +93,14 @@ static enum answer begin(struct sender *s, struct stream *stream, const struct b
 /* ---- Streams */
 
 /* Makes a stream what the outbox has of it: answers as sender_find, ANSWER_DONE if its key can't be read, or wrapped. */
-static enum answer load(struct sender *s, struct stream *stream)
+static enum answer load_stream(struct sender *s, struct stream *stream)
 {
     struct begun last;
     enum answer answer = ANSWER_DONE, found = outbox_find_stream(&s->outbox, s->kerberos, stream->name, &last);
     if (found == ANSWER_FOUND && !last.is_closed)
         answer = sender_find_begun(s, last.opened.name, &stream->now);
     else if (found != ANSWER_FAULT)
-        answer = begin(s, stream, found == ANSWER_FOUND ? &last : NULL, &stream->now);
+        answer = begin_session(s, stream, found == ANSWER_FOUND ? &last : NULL, &stream->now);
     explicit_bzero(&last, sizeof last);
     return answer;
 }
@@ -129,7 +130,7 @@ enum answer sender_find_begun(struct sender *s, const char *name, struct sending
     found_row = outbox_find_begun(&s->outbox, s->kerberos, name, &row);
     stream = found_row == ANSWER_FOUND ? stream_of(s, row.opened.stream) : NULL;
     if (stream != NULL)
-        *it = add(s, stream, &row, NULL);
+        *it = add_session(s, stream, &row, NULL);
     explicit_bzero(&row, sizeof row);
     if (found_row != ANSWER_FOUND)
         return ANSWER_DONE; /* a fault is reported: its frames stay until its key can be read */
@@ -157,7 +158,7 @@ enum answer sender_find_stream(struct sender *s, const char *name, struct sendin
     if (stream == NULL)
         return ANSWER_FAULT;
     if (stream->now == NULL)
-        answer = stream->key == STREAM_UNREADABLE ? ANSWER_DONE : load(s, stream);
+        answer = stream->key == STREAM_UNREADABLE ? ANSWER_DONE : load_stream(s, stream);
     if (answer == ANSWER_DONE) {
         stream->key = STREAM_UNREADABLE; /* so that no later text of it is taken before this one */
         sender_note_unreadable(s);
@@ -230,7 +231,7 @@ enum answer sender_renew(struct sender *s, struct sending **it, sqlite3_int64 id
 {
     struct sending *old = *it;
     struct stream *stream = old->stream;
-    enum answer answer = stream->next != NULL ? ANSWER_FOUND : begin(s, stream, old->begun, &stream->next);
+    enum answer answer = stream->next != NULL ? ANSWER_FOUND : begin_session(s, stream, old->begun, &stream->next);
     if (answer != ANSWER_FOUND)
         return answer;
     answer = seal_close(&s->sealing, old, id);

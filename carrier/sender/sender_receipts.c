@@ -217,7 +217,7 @@ void receipts_forget(struct sender *s)
 /* ---- Receipts that come */
 
 /* A receipt of a session that is loaded. */
-static void take(struct sender *s, struct sending *it, const uint8_t *bytes, size_t len)
+static void take_receipt(struct sender *s, struct sending *it, const uint8_t *bytes, size_t len)
 {
     enum heard heard = HEARD_FAULT;
     if (it->stopped_from == 1)
@@ -238,7 +238,7 @@ static void hear(void *given, const char *name, const uint8_t *bytes, size_t len
     struct sender *s = given;
     void *found = tfind(name, &s->by_name, by_name);
     if (found != NULL)
-        take(s, *(struct sending **)found, bytes, len);
+        take_receipt(s, *(struct sending **)found, bytes, len);
     else if (!s->has_heard && may_have(s, name) && keep(s, name, bytes, len) != ANSWER_DONE)
         s->has_lost = 1;
 }

@@ -30,7 +30,7 @@ static int read_value(const PGresult *result, int column, char *text, size_t roo
 
 /* The first value of the first row of a statement with one or two values, as a text; "" after a
  * fault, after which the connection isn't used any more. */
-static const char *ask(struct postgresql_shard_locks *s, const char *sql, unsigned shard, char text[32])
+static const char *ask_server(struct postgresql_shard_locks *s, const char *sql, unsigned shard, char text[32])
 {
     char number[16];
     const char *const values[] = { s->class, number };
@@ -62,7 +62,7 @@ static int be_counted(struct postgresql_shard_locks *s)
     int is_wanted = !s->base.is_cut_off;
     if (is_wanted == s->is_counted)
         return 1;
-    if (*ask(s, counted[is_wanted], COUNTED, text) != 't')
+    if (*ask_server(s, counted[is_wanted], COUNTED, text) != 't')
         return 0;
     s->is_counted = is_wanted;
     return 1;
@@ -91,13 +91,13 @@ static int be_there(struct postgresql_shard_locks *s)
     return 0;
 }
 
-static int take(struct shard_locks *base, unsigned shard)
+static int take_shard(struct shard_locks *base, unsigned shard)
 {
     struct postgresql_shard_locks *s = (struct postgresql_shard_locks *)base;
     char text[32];
     if (s->db == NULL)
         return -1;
-    ask(s, "SELECT pg_try_advisory_lock($1::int, $2::int)", shard, text);
+    ask_server(s, "SELECT pg_try_advisory_lock($1::int, $2::int)", shard, text);
     return text[0] == 0 ? -1 : text[0] == 't';
 }
 
@@ -106,7 +106,7 @@ static void give_back(struct shard_locks *base, unsigned shard)
     struct postgresql_shard_locks *s = (struct postgresql_shard_locks *)base;
     char text[32];
     if (s->db != NULL)
-        ask(s, "SELECT pg_advisory_unlock($1::int, $2::int)", shard, text);
+        ask_server(s, "SELECT pg_advisory_unlock($1::int, $2::int)", shard, text);
 }
 
 /* Opens the connection again, and takes the locks that were lost with it. */
@@ -127,14 +127,14 @@ static int count(struct shard_locks *base)
     char text[32];
     if ((s->db == NULL && !come_again(s)) || !be_counted(s))
         return -1;
-    ask(s, "SELECT count(*) FROM pg_locks JOIN pg_database ON pg_database.oid = database"
+    ask_server(s, "SELECT count(*) FROM pg_locks JOIN pg_database ON pg_database.oid = database"
            " WHERE locktype = 'advisory' AND datname = current_database() AND granted"
            " AND classid::bigint = ($1::int::bigint & 4294967295) AND objid = 2147483647"
            " AND objsubid = 2 AND $2::int = 0", 0, text);
     return text[0] == 0 ? -1 : atoi(text);
 }
 
-static void close_it(struct shard_locks *base)
+static void close_locks(struct shard_locks *base)
 {
     struct postgresql_shard_locks *s = (struct postgresql_shard_locks *)base;
     PQfinish(s->db);
@@ -143,7 +143,7 @@ static void close_it(struct shard_locks *base)
 
 struct shard_locks *postgresql_shard_locks_open(const char *where)
 {
-    static const struct shard_locks_calls calls = { count, take, give_back, close_it };
+    static const struct shard_locks_calls calls = { count, take_shard, give_back, close_locks };
     struct postgresql_shard_locks *s = shard_locks_make(sizeof *s, &calls);
     if (s == NULL)
         return NULL;

@@ -211,7 +211,7 @@ static enum answer run_values(struct store *base, const char *sql, const struct 
     return s->unsynced > SYNCED ? sync(s) : ANSWER_DONE;
 }
 
-static enum answer add(struct store *base, const char *sql, const struct value *values, unsigned count)
+static enum answer add_values(struct store *base, const char *sql, const struct value *values, unsigned count)
 {
     return run_values(base, sql, values, count, ANY_ROWS);
 }
@@ -229,7 +229,7 @@ static enum answer settle(struct store *base)
 
 /* ---- A transaction */
 
-static enum answer begin(struct store *base)
+static enum answer begin_transaction(struct store *base)
 {
     ((struct postgresql_store *)base)->is_open = 1;
     return run_values(base, "BEGIN", NULL, 0, ANY_ROWS);
@@ -289,7 +289,7 @@ static enum answer take_columns(const PGresult *result, int row, store_row *take
     return take(given, columns);
 }
 
-static enum answer ask(struct store *base, const char *sql, const struct value *values, unsigned count,
+static enum answer ask_rows(struct store *base, const char *sql, const struct value *values, unsigned count,
                        store_row *take, void *given)
 {
     PGresult *result = query((struct postgresql_store *)base, sql, values, count);
@@ -310,7 +310,7 @@ static int is_there(struct store *base)
     return 1;
 }
 
-static void close_it(struct store *base)
+static void close_store(struct store *base)
 {
     struct postgresql_store *s = (struct postgresql_store *)base;
     PQfinish(s->db);
@@ -368,11 +368,12 @@ struct store *postgresql_store_open(const char *where)
     struct postgresql_store *s = calloc(1, sizeof *s);
     if (s == NULL)
         return NULL;
-    s->base = (struct store){ own_sql, { NULL }, "SET CONSTRAINTS ALL IMMEDIATE", begin, run_values, add, refusal, settle,
-                              commit, rollback, ask, is_there, close_it };
+    s->base = (struct store){ own_sql, { NULL }, "SET CONSTRAINTS ALL IMMEDIATE", begin_transaction, run_values,
+                              add_values, refusal, settle,
+                              commit, rollback, ask_rows, is_there, close_store };
     s->db = postgresql_connect(where);
     if (s->db != NULL && make_tables(s) && PQenterPipelineMode(s->db))
         return &s->base;
-    close_it(&s->base);
+    close_store(&s->base);
     return NULL;
 }

@@ -14,7 +14,7 @@ enum { RECEIVERS = 256 }; /* the most that share one file */
 struct file_locks { struct shard_locks base; int file; unsigned own; /* this receiver's byte; 0: none */ };
 
 /* Asks something of a byte's lock: F_OFD_SETLK, or F_OFD_GETLK, whose answer is the lock's type. */
-static int ask(const struct file_locks *s, int what, short type, unsigned byte)
+static int ask_lock(const struct file_locks *s, int what, short type, unsigned byte)
 {
     struct flock lock = { .l_type = type, .l_whence = SEEK_SET, .l_start = byte, .l_len = 1 };
     if (fcntl(s->file, what, &lock) == 0)
@@ -31,7 +31,7 @@ static int be_counted(struct file_locks *s)
     unsigned i;
     int taken = s->own != 0;
     for (i = 0; i < RECEIVERS && taken == 0; i++) {
-        taken = ask(s, F_OFD_SETLK, F_WRLCK, CARRIER_SHARDS + i);
+        taken = ask_lock(s, F_OFD_SETLK, F_WRLCK, CARRIER_SHARDS + i);
         s->own = taken == 1 ? CARRIER_SHARDS + i : 0;
     }
     return taken == 1;
@@ -42,12 +42,12 @@ static int count(struct shard_locks *base)
     struct file_locks *s = (struct file_locks *)base;
     unsigned i;
     int others = 0;
-    if (s->base.is_cut_off && s->own != 0 && ask(s, F_OFD_SETLK, F_UNLCK, s->own) == 1)
+    if (s->base.is_cut_off && s->own != 0 && ask_lock(s, F_OFD_SETLK, F_UNLCK, s->own) == 1)
         s->own = 0;
     if (!s->base.is_cut_off && !be_counted(s))
         return -1;
     for (i = 0; i < RECEIVERS; i++) {
-        int type = ask(s, F_OFD_GETLK, F_WRLCK, CARRIER_SHARDS + i);
+        int type = ask_lock(s, F_OFD_GETLK, F_WRLCK, CARRIER_SHARDS + i);
         if (type < 0)
             return -1;
         others += type != F_UNLCK;
@@ -55,18 +55,18 @@ static int count(struct shard_locks *base)
     return others + (s->own != 0);
 }
 
-static int take(struct shard_locks *base, unsigned shard)
+static int take_shard(struct shard_locks *base, unsigned shard)
 {
-    return ask((struct file_locks *)base, F_OFD_SETLK, F_WRLCK, shard);
+    return ask_lock((struct file_locks *)base, F_OFD_SETLK, F_WRLCK, shard);
 }
 
 static void give_back(struct shard_locks *base, unsigned shard)
 {
-    if (ask((struct file_locks *)base, F_OFD_SETLK, F_UNLCK, shard) != 1)
+    if (ask_lock((struct file_locks *)base, F_OFD_SETLK, F_UNLCK, shard) != 1)
         log_system("shards_unlocked", "fcntl");
 }
 
-static void close_it(struct shard_locks *base)
+static void close_locks(struct shard_locks *base)
 {
     struct file_locks *s = (struct file_locks *)base;
     if (s->file >= 0 && close(s->file) != 0)
@@ -89,7 +89,7 @@ static int be_there(struct file_locks *s, const char *path)
 
 static struct shard_locks *file_locks_open(const char *path)
 {
-    static const struct shard_locks_calls calls = { count, take, give_back, close_it };
+    static const struct shard_locks_calls calls = { count, take_shard, give_back, close_locks };
     struct file_locks *s = shard_locks_make(sizeof *s, &calls);
     if (s == NULL)
         return NULL;

@@ -63,7 +63,7 @@ static const char *const own_sql[STORE_SQL] = {
 };
 /* end of statements */
 
-static enum answer begin(struct store *base)
+static enum answer begin_transaction(struct store *base)
 {
     struct sqlite_store *s = (struct sqlite_store *)base;
     s->is_fenced = 0;
@@ -164,7 +164,7 @@ static enum answer run_values(struct store *base, const char *sql, const struct 
     return answer;
 }
 
-static enum answer add(struct store *base, const char *sql, const struct value *values, unsigned count)
+static enum answer add_values(struct store *base, const char *sql, const struct value *values, unsigned count)
 {
     struct sqlite_store *s = (struct sqlite_store *)base;
     int place = next_row(&s->rows);
@@ -196,7 +196,7 @@ static enum answer take_columns(const struct statement *select, store_row *take,
     return check_columns(select) == ANSWER_DONE ? take(given, texts) : ANSWER_FAULT;
 }
 
-static enum answer ask(struct store *base, const char *sql, const struct value *values, unsigned count,
+static enum answer ask_rows(struct store *base, const char *sql, const struct value *values, unsigned count,
                        store_row *take, void *given)
 {
     struct statement *select = bound(base, sql, values, count);
@@ -211,7 +211,7 @@ static enum answer ask(struct store *base, const char *sql, const struct value *
 
 /* ---- */
 
-static void close_it(struct store *base)
+static void close_store(struct store *base)
 {
     struct sqlite_store *s = (struct sqlite_store *)base;
     finalize(s->prepared, STORE_STATEMENTS);
@@ -257,7 +257,7 @@ static enum answer complete(sqlite3 *db)
     return ANSWER_FAULT;
 }
 
-static enum answer open_it(struct sqlite_store *s, const char *path, unsigned shard)
+static enum answer open_store(struct sqlite_store *s, const char *path, unsigned shard)
 {
     if (path_of_shard(path, shard, s->path, sizeof s->path) == NULL)
         return ANSWER_FAULT;
@@ -282,10 +282,11 @@ struct store *sqlite_store_open(const char *path, unsigned shard)
     struct sqlite_store *s = calloc(1, sizeof *s);
     if (s == NULL)
         return NULL;
-    s->base = (struct store){ own_sql, { NULL }, NULL, begin, run_values, add, refusal, settle, commit, rollback, ask,
-                              is_there, close_it };
-    if (open_it(s, path, shard) == ANSWER_DONE)
+    s->base = (struct store){ own_sql, { NULL }, NULL, begin_transaction, run_values, add_values, refusal, settle, commit,
+                              rollback, ask_rows,
+                              is_there, close_store };
+    if (open_store(s, path, shard) == ANSWER_DONE)
         return &s->base;
-    close_it(&s->base);
+    close_store(&s->base);
     return NULL;
 }

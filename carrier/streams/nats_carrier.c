@@ -100,7 +100,7 @@ static void end_connection(struct nats_carrier *c)
     nats_leave(&c->receipts);
 }
 
-static void close_it(struct carrier *base)
+static void close_carrier(struct carrier *base)
 {
     struct nats_carrier *c = (struct nats_carrier *)base;
     nats_stop_reading(c);
@@ -214,7 +214,7 @@ static natsStatus connect_to(struct nats_carrier *c)
     return status == NATS_OK ? nats_hear(c, "word", &c->words) : status;
 }
 
-static natsStatus begin(struct nats_carrier *c)
+static natsStatus begin_connection(struct nats_carrier *c)
 {
     natsStatus status = natsOptions_SetMaxReconnect(c->options, -1);
     if (status == NATS_OK)
@@ -304,18 +304,18 @@ struct carrier *nats_carrier_open(const struct carrier_options *options)
     if (c == NULL)
         return NULL;
     c->base = (struct carrier){ nats_find_list, nats_make, nats_publish, nats_confirmed, nats_seek, nats_fetch,
-                                nats_behind, nats_acknowledge, nats_receipts, nats_forget, is_away, is_closed, close_it,
+                                nats_behind, nats_acknowledge, nats_receipts, nats_forget, is_away, is_closed, close_carrier,
                                 nats_due, NULL, -1 };
     c->is_secure = is_secure(options);
     c->replicas = options->replicas;
     c->has_password = strchr(options->where, '@') != NULL;
     status = natsOptions_Create(&c->options);
     if (status == NATS_OK && set_options(c->options, options) == NATS_OK) {
-        status = begin(c);
+        status = begin_connection(c);
         if (status == NATS_OK)
             return &c->base;
         report_unopened(options->where, c->has_password, status);
     }
-    close_it(&c->base);
+    close_carrier(&c->base);
     return NULL;
 }

@@ -26,7 +26,7 @@ enum {
 /* ---- Streams */
 
 /* Asks for a stream, or has it made. */
-static void ask(struct nats_carrier *c, unsigned shard, const char *what, const char *text)
+static void ask_stream(struct nats_carrier *c, unsigned shard, const char *what, const char *text)
 {
     char stream[NATS_NAME], reply[NATS_SUBJECT];
     nats_name_stream(shard, stream);
@@ -61,7 +61,7 @@ void nats_look_for(struct nats_carrier *c, unsigned shard)
         krbrelay_pause_begin(&c->made[shard].pause, AGAIN, now);
     else
         krbrelay_pause_grow(&c->made[shard].pause, AGAIN_MOST, now);
-    ask(c, shard, "STREAM.INFO", "");
+    ask_stream(c, shard, "STREAM.INFO", "");
 }
 
 enum answer nats_make(struct carrier *base, unsigned shard, uint64_t *list)
@@ -101,7 +101,7 @@ static void read_stream(struct nats_carrier *c, natsMsg *message, unsigned shard
     c->made[shard].is_known = status == NATS_OK && is_fit(c, &it, shard);
     if (status == NATS_NOT_FOUND) {
         nats_write_stream(c, shard, text);
-        ask(c, shard, "STREAM.CREATE", text);
+        ask_stream(c, shard, "STREAM.CREATE", text);
         return;
     }
     if (status == NATS_OK)

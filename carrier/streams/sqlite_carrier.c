@@ -297,7 +297,7 @@ static int never(struct carrier *base)
     return 0;
 }
 
-static void close_it(struct carrier *base)
+static void close_carrier(struct carrier *base)
 {
     struct sqlite_carrier *c = (struct sqlite_carrier *)base;
     finalize(c->statements, STATEMENTS);
@@ -307,7 +307,7 @@ static void close_it(struct carrier *base)
     free(c);
 }
 
-static enum answer open_it(struct sqlite_carrier *c, const char *path)
+static enum answer open_carrier(struct sqlite_carrier *c, const char *path)
 {
     struct statement select = { NULL, 0 };
     c->room = 1 << 20;
@@ -335,9 +335,9 @@ struct carrier *sqlite_carrier_open(const char *path)
     if (c == NULL)
         return NULL;
     c->base = (struct carrier){ find_list, make, publish, confirmed, seek, fetch, behind, acknowledge, receipts, forget,
-                                never, never, close_it, not_due, path, -1 };
-    if (open_it(c, path) == ANSWER_DONE)
+                                never, never, close_carrier, not_due, path, -1 };
+    if (open_carrier(c, path) == ANSWER_DONE)
         return &c->base;
-    close_it(&c->base);
+    close_carrier(&c->base);
     return NULL;
 }

@@ -59,7 +59,7 @@ static uint64_t end_of(const krb5_creds *creds)
 }
 
 /* Takes a ticket in the place of the one that there was. */
-static void take(struct tickets *t, krb5_creds *creds)
+static void take_ticket(struct tickets *t, krb5_creds *creds)
 {
     krb5_creds *before;
     take_lock(&t->lock);
@@ -89,7 +89,7 @@ static int is_left(struct tickets *t)
 }
 
 /* Asks once, and says in how many seconds to ask again. */
-static uint64_t ask(struct tickets *t, uint64_t *pause)
+static uint64_t ask_ticket(struct tickets *t, uint64_t *pause)
 {
     krb5_creds *creds = NULL;
     krb5_error_code code = get(t->kerberos, &creds);
@@ -101,7 +101,7 @@ static uint64_t ask(struct tickets *t, uint64_t *pause)
         return *pause;
     }
     end = end_of(creds);
-    take(t, creds);
+    take_ticket(t, creds);
     *pause = SHORTEST;
     return end > now + 2 * SHORTEST ? (end - now) / 2 : SHORTEST;
 }
@@ -116,7 +116,7 @@ static int has_ended(struct tickets *t)
     return answer;
 }
 
-static void *work(void *given)
+static void *renew_tickets(void *given)
 {
     struct tickets *t = given;
     uint64_t pause = SHORTEST, next = 0, asked = 0;
@@ -125,7 +125,7 @@ static void *work(void *given)
         int is_due = now >= next || (has_ended(t) && now - asked >= SHORTEST * UINT64_C(1000000000));
         if (is_due) {
             asked = now;
-            next = ask(t, &pause) * UINT64_C(1000000000) + nanoseconds();
+            next = ask_ticket(t, &pause) * UINT64_C(1000000000) + nanoseconds();
         }
         (void)waiting_until(&t->waiting, milliseconds() + LOOK); /* for the end alone */
     }
@@ -144,7 +144,7 @@ struct tickets *tickets_open(const struct kerberos_options *options)
     waiting_begin(&t->waiting, 0);
     t->kerberos = kerberos_open(options, options->client);
     if (t->kerberos != NULL && pthread_mutex_init(&t->lock, NULL) == 0
-        && pthread_create(&t->thread, NULL, work, t) == 0)
+        && pthread_create(&t->thread, NULL, renew_tickets, t) == 0)
         return t;
     log_system("thread_unstarted", "tickets");
     if (t->kerberos != NULL)
