@@ -102,14 +102,6 @@ def programs(shared, prefix):
     return both_programs(shared, prefix, "programs_of_effects")
 
 
-@pytest.fixture(autouse=True)
-def _files_of_their_owner_alone():
-    """A database that a test looks at before its program makes it is the test's."""
-    before = os.umask(0o077)
-    yield
-    os.umask(before)
-
-
 class Ends:
     """Both ends of one session, in a folder."""
 

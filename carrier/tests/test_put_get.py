@@ -11,8 +11,7 @@ import subprocess
 import sys
 
 import pytest
-from test_effects import (  # noqa: F401
-    SOURCES, TO_WAIT, Ends, _files_of_their_owner_alone, await_so, both_programs, end)
+from test_effects import SOURCES, TO_WAIT, Ends, await_so, both_programs, end
 
 from lib.build import building
 

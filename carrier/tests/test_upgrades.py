@@ -14,7 +14,7 @@ import sqlite3
 import subprocess
 
 import pytest
-from test_effects import HERE, Ends, _files_of_their_owner_alone, await_so, both_programs, end  # noqa: F401
+from test_effects import HERE, Ends, await_so, both_programs, end
 
 # Of each session the key, that of the way back, how many texts were put in, how many of them waited, how many frames were kept, how
 # many texts had taken effect, when the dumps were made, and whether it is closed.
