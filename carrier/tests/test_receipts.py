@@ -30,11 +30,12 @@ def relay_once(place):
 
 
 def deliver_until_receipts(place, rows, count):
-    """Texts are delivered, and so many receipts are left in the carrier, of which the sender hasn't heard."""
+    """Texts are delivered. Whether so many receipts are left in the carrier then, of which the sender hasn't heard."""
     place.send(rows)
     receiver = place.receive()
-    place.expect(lambda: place.count("carrier", "receipt") == count, "no receipts")
+    are_left = place.wait(lambda: place.count("carrier", "receipt") == count, 5)
     place.end(receiver)
+    return are_left
 
 
 def lose_carrier(place, rows_of, seconds):
@@ -111,19 +112,20 @@ def last_receipt(place):
 @case("receipts are lost", {"ann": 100}, 20)
 def receipts_lost(place):
     """The sender is away: the receiver seals them again."""
-    deliver_until_receipts(place, texts("ann", 0, 100), 1)
+    were_left = deliver_until_receipts(place, texts("ann", 0, 100), 1)
     place.change("carrier", "DELETE FROM receipt")
     place.start("receiver")
     place.start("sender")
     place.await_no_frames(8)
     require_each_once(place)
+    assert were_left, "no receipts"
 
 
 @case("receipts that aren't the session's", {"ann": 50, "tom": 50}, 20, (WITH_RECEIPTS, TOM))
 def receipts_forged(place):
     """They delete nothing: junk, another session's, one under the session's own key, and one of an address that isn't
     the receiver's."""
-    deliver_until_receipts(place, texts("ann", 0, 50) + texts("tom", 0, 50), 2)
+    assert deliver_until_receipts(place, texts("ann", 0, 50) + texts("tom", 0, 50), 2), "no receipts"
     good = dict(place.ask("carrier", "SELECT session, receipt FROM receipt"))
     own = place.ask("carrier", "SELECT frame FROM carried WHERE session = 'ann' ORDER BY offset DESC LIMIT 1")[0][0]
     place.change("carrier", "DELETE FROM receipt")
