@@ -1,4 +1,4 @@
-"""The programs of carrier/ with what only tests need, built over an installed library."""
+"""The programs of carrier/, built over an installed library: as they are shipped, and with what only tests need."""
 import os
 import shutil
 import subprocess
@@ -9,6 +9,7 @@ HERE = os.path.dirname(os.path.abspath(__file__))
 SOURCES = os.path.dirname(HERE)
 LIBRARIES = ("libnats", "libmicrohttpd", "libsystemd", "libpq")
 SANITIZERS = "-fsanitize=address,undefined -fno-sanitize-recover=all -fno-omit-frame-pointer"
+ALONE = ("WITH_NATS=no", "WITH_POSTGRESQL=no")
 
 
 def has_library(name):
@@ -26,14 +27,18 @@ def missing(with_servers):
     return found
 
 
-def build(out, prefix, with_servers, *, sources=SOURCES, target="tests", sanitized=None):
-    """Builds the programs of these sources, with NATS and PostgreSQL or without."""
-    absent = missing(with_servers)
-    assert not absent, f"missing: apt-get install {' '.join(absent)}"
-    without = [] if with_servers else ["WITH_NATS=no", "WITH_POSTGRESQL=no"]
-    done = subprocess.run(["make", "-C", HERE, f"SOURCES={sources}", f"OUT={out}", f"PREFIX={prefix}",
-                           f"CC={sanitized or ' '.join(c_tools.c_compiler())}",
-                           f"SANITIZERS={SANITIZERS if sanitized else ''}", target, *without],
-                          check=False, stdout=subprocess.PIPE, stderr=subprocess.STDOUT, text=True)
+def shipped(out, prefix, *words, folder=SOURCES, compiler=None):
+    """Builds the programs, which any user may run, and answers where they are."""
+    done = subprocess.run(["make", "-C", folder, f"OUT={out}", f"PREFIX={prefix}",
+                           f"CC={compiler or ' '.join(c_tools.c_compiler())}", *words], check=False, umask=0o022,
+                          stdout=subprocess.PIPE, stderr=subprocess.STDOUT, text=True)
     assert done.returncode == 0, done.stdout[-5000:]
     return str(out)
+
+
+def build(out, prefix, with_servers, *, sources=SOURCES, target="tests", sanitized=None):
+    """The same with what tests need, of these sources, with NATS and PostgreSQL or without."""
+    absent = missing(with_servers)
+    assert not absent, f"missing: apt-get install {' '.join(absent)}"
+    more = [f"SANITIZERS={SANITIZERS}"] * bool(sanitized) + [*ALONE] * (not with_servers)
+    return shipped(out, prefix, f"SOURCES={sources}", target, *more, folder=HERE, compiler=sanitized)

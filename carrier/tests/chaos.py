@@ -410,7 +410,6 @@ class Trial:
                 *self.processes.common, "--shards", ",".join(map(str, range(self.given.shards)))]
 
     def run(self):
-        """Returns whether all went right."""
         try:
             self.start_engines()
             self.disturb_all()
@@ -420,7 +419,6 @@ class Trial:
             for engine in (self.nats, self.postgres):
                 if engine:
                     engine.stop()
-        return not self.faults
 
     def start_processes(self):
         """Each outbox is made before the first text: a sender with nothing to do ends."""

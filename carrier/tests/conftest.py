@@ -47,6 +47,12 @@ def programs(shared, prefix, with_servers, sanitized):
 
 
 @pytest.fixture(scope="session")
+def shipped(shared, prefix):
+    """A folder with the programs as they are shipped, over SQLite alone."""
+    return shared.once("shipped", lambda folder: builds.shipped(folder, prefix, *builds.ALONE))
+
+
+@pytest.fixture(scope="session")
 def compared(request):
     """The program whose `open` reads what the shards have: the proved one, or that which KRBRELAY names."""
     return os.environ.get("KRBRELAY") or request.getfixturevalue("krbrelay")

@@ -292,7 +292,6 @@ class Endurance:
         self.counts["largest lag"] = int(max(it.lag for it in self.samples))
 
     def run(self):
-        """Whether all went right."""
         try:
             self.start()
             until = time.monotonic() + self.seconds
@@ -315,7 +314,6 @@ class Endurance:
                     unit.stop()
             self.database.stop()
             self.nats.stop()
-        return not self.faults
 
     def told(self):
         return ", ".join(f"{word} {count}" for word, count in sorted(self.counts.items()))
@@ -324,7 +322,7 @@ class Endurance:
 @pytest.mark.slow
 def test_endurance(programs, folder, pytestconfig):
     """For an hour with --seconds 3600."""
-    trial = Endurance(folder, programs, pytestconfig.getoption("--seconds"))
+    trial = Endurance(folder, programs, pytestconfig.getoption("--seconds", 30))
     trial.run()
     print(trial.told())
     assert trial.faults[:20] == []

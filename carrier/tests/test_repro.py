@@ -1043,7 +1043,7 @@ def permissions(place):
         os.chmod(path, 0o600)
 
 
-# ---- programs that are told to end, and what they tell
+# ---- what programs say to a supervisor, and how they end
 
 @case("what a supervisor is told", {"ann": 5}, 15)
 def supervisor(place):
