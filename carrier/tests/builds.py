@@ -29,7 +29,7 @@ def missing(with_servers):
 
 def shipped(out, prefix, *words, folder=SOURCES, compiler=None):
     """Builds the programs, which any user may run, and answers where they are."""
-    done = subprocess.run(["make", "-C", folder, f"OUT={out}", f"PREFIX={prefix}",
+    done = subprocess.run(["make", "-j2", "-C", folder, f"OUT={out}", f"PREFIX={prefix}",
                            f"CC={compiler or ' '.join(c_tools.c_compiler())}", *words], check=False, umask=0o022,
                           stdout=subprocess.PIPE, stderr=subprocess.STDOUT, text=True)
     assert done.returncode == 0, done.stdout[-5000:]
