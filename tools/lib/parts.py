@@ -229,7 +229,7 @@ VERBS = {
     "run": ("krbrelay", "relay", "show", "picture", "check_job"),
     "make": ("install", "c/library", "c/dist", "debian", "release", "reference", "figure"),
     "prove": ("test", "proving.py", "mutants"),
-    "bench": ("bench", "bench_aes", "bench_lane", "tests/job_costs"),
+    "bench": ("bench", "bench_aes", "bench_lane", "carrier/bench", "tests/job_costs"),
 }
 OTHERS = "check"
 

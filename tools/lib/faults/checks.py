@@ -140,7 +140,7 @@ def carrier_case(copy: Copy, table: str, *cases: str) -> Told:
     """Cases of a table of carrier/tests, over the installed library. Where its programs aren't built, pytest counts an
     error alone."""
     tests = [f"carrier/tests/test_{table}.py::test_case[{it}]" for it in cases]
-    return counted(copy.run(["pytest", "-q", "-x", "--all", f"--prefix={copy.installed}", *tests], cwd=copy.top),
+    return counted(copy.run(["pytest", "-q", "-x", "--tb=short", "--all", f"--prefix={copy.installed}", *tests], cwd=copy.top),
                    r"\d+ (?:passed|failed)\b.* in [\d.]+s")
 
 
