@@ -20,8 +20,6 @@ import typing
 import urllib.error
 import urllib.request
 
-import pytest
-
 import engines
 import jetstream
 import loglines
@@ -93,6 +91,8 @@ def table(kind=Case, **usual):
 
 def tested(found):
     """The tests of a table: each does one case, at the place that the fixture makes for it."""
+    import pytest       # here, since carrier/bench does without it
+
     @pytest.mark.parametrize("place", [
         pytest.param(it, id=it.name(), marks=() if it.is_quick else pytest.mark.slow) for it in found], indirect=True)
     def test_case(place):

@@ -139,9 +139,9 @@ def carrier(copy: Copy, what: str) -> Told:
 def carrier_case(copy: Copy, table: str, *cases: str) -> Told:
     """Cases of a table of carrier/tests, over the installed library. Where its programs aren't built, pytest counts an
     error alone."""
-    tests = [f"carrier/tests/test_{table}.py::test_case[{it}]" for it in cases]
-    return counted(copy.run(["pytest", "-q", "-x", "--tb=short", "--all", f"--prefix={copy.installed}", *tests], cwd=copy.top),
-                   r"\d+ (?:passed|failed)\b.* in [\d.]+s")
+    words = ["pytest", "-q", "-x", "--tb=short", "--all", f"--prefix={copy.installed}"]
+    told = copy.run([*words, *(f"carrier/tests/test_{table}.py::test_case[{it}]" for it in cases)], cwd=copy.top)
+    return counted(told, r"\d+ (?:passed|failed)\b.* in [\d.]+s")
 
 
 def carrier_pytest(copy: Copy, module: str, *words: str) -> Told:
