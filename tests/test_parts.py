@@ -332,11 +332,14 @@ def test_without_proofs_the_program_is_built_unless_it_is(runs):
 
 
 def test_all_runs_further_parts_one_at_a_time(runs):
+    """And at last two at a time of those that wait."""
     _, out, _, notes = found = runs.run("--all")
     absent = [it for it in parts.MORE if it.missing() not in ([], [parts.PROGRAM])]
     every = COUNT + len(parts.MORE)
-    assert begun(notes)[COUNT:] == [name_of(it) for it in parts.MORE if it not in absent]
-    assert most(notes[2 * COUNT:]) == 1 and found[0] == bool(absent)
+    alone, waiting = ([name_of(it) for it in parts.MORE if it not in absent and it.waits == waits] for waits in (False, True))
+    end = COUNT + len(alone)
+    assert begun(notes)[COUNT:end] == alone and sorted(begun(notes)[end:]) == sorted(waiting)
+    assert most(notes[2 * COUNT:2 * end]) == 1 and most(notes[2 * end:]) <= 2 and found[0] == bool(absent)
     assert out.endswith(f"{every - len(absent)} passed, {len(absent)} failed\n")
     assert (["FAILED: missing:" in line for line in lines_of_parts(out, COUNT + 1, parts.MORE)]
             == [it in absent for it in parts.MORE]), "one whose tools are missing fails"

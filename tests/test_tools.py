@@ -3,12 +3,14 @@
 Those that have a control of their own in each run are named in OWN_CONTROLS. The tools of tools/ have
 theirs in test_building, test_parts, test_picture and test_reference.
 """
+import contextlib
 import dataclasses
 import os
 import re
 import subprocess
 import sys
 import tomllib
+import types
 
 import pytest
 
@@ -443,6 +445,15 @@ def test_a_refusal_names_a_goal_of_the_function(said, goals):
 @pytest.mark.parametrize("passed, said", [(True, "3 passed, 0 failed"), (False, "FAILED a: 9\n2 passed, 1 failed")])
 def test_a_tool_that_counted_is_believed(passed, said):
     assert checks.counted((passed, said)) == (passed, said)
+
+
+@pytest.mark.parametrize("said, is_counted", [
+    ("1 failed in 9.10s", True), ("1 failed, 2 warnings in 75.00s (0:01:15)", True), ("1 passed, 1 error in 9.10s", True),
+    ("1 error in 9.10s", False), ("no tests ran in 0.10s", False)])
+def test_a_case_that_has_no_programs_saw_nothing(said, is_counted):
+    of = types.SimpleNamespace(installed="", top="", run=lambda *_, **__: (False, f"FAILED a\n{said}\n"))
+    with contextlib.nullcontext() if is_counted else pytest.raises(without_proofs.NotCompiled):
+        assert not checks.carrier_case(of, "repro", "secured")[0]
 
 
 @pytest.mark.parametrize("said", [

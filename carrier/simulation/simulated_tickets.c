@@ -1,6 +1,6 @@
 /* Tickets, openings and keys at rest without Kerberos: in the place of without_tickets.c. An opening is its session in the
- * clear with a digest, which nobody forges here; what is right of real ones is tested with a KDC (carrier/test --tickets).
- * At times no ticket can be had, and the keytab can't be read. */
+ * clear with a digest, which nobody forges here; what is right of real ones is tested with a KDC (test_tickets.py of
+ * carrier/tests). At times no ticket can be had, and the keytab can't be read. */
 #include "key_wrapping.h"
 #include "clock.h"
 #include "ports.h"

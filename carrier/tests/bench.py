@@ -14,8 +14,8 @@ import subprocess
 import sys
 import time
 
+import cases
 import engines
-import errors
 import loglines
 
 SHARDS, SESSIONS, TEXTS, BYTES, FRAME = 4, 64, 120_000, 1000, 1110
@@ -28,7 +28,7 @@ def write_sessions(folder):
     lines = [(it % SHARDS, f"s{it:04} {it % SHARDS} 18 priv {dice.randbytes(32).hex()} 1"
                            " 10.0.0.1 10.0.0.2\n") for it in range(SESSIONS)]
     for name, wanted in [("", range(SHARDS)), *((shard, [shard]) for shard in range(SHARDS))]:
-        errors.Ends.write(f"{folder}/sessions{name}",
+        cases.Place.write(f"{folder}/sessions{name}",
                           [line for shard, line in lines if shard in wanted])
 
 
@@ -42,11 +42,11 @@ def fill_outboxes(programs, folder, carrier, replicas):
     at_once([sender(programs, folder, carrier, replicas, it) for it in range(SHARDS)])
     for shard in range(SHARDS):
         names = [f"s{it:04}" for it in range(SESSIONS) if it % SHARDS == shard]
-        with errors.opened(f"{folder}/outbox{shard}.db") as file:
+        with cases.opened(f"{folder}/outbox{shard}.db") as file:
             file.executemany("INSERT INTO text (session, body) VALUES (?, ?)",
                              [(names[it % len(names)], b"x" * BYTES)
                               for it in range(TEXTS // SHARDS)] + [(name, None) for name in names])
-        with errors.opened(f"{folder}/outbox{shard}.db") as file:
+        with cases.opened(f"{folder}/outbox{shard}.db") as file:
             file.execute("PRAGMA wal_checkpoint(TRUNCATE)")
 
 

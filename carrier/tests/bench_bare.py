@@ -9,8 +9,8 @@ import sqlite3
 import subprocess
 import time
 
+import cases
 import engines
-import errors
 
 SESSIONS, BYTES, TURNS = (1, 16, 1000), 60, 3
 AT_ONCE, ONE_BY_ONE, APART = 20_000, 150, 0.02     # texts, and seconds between two of the latter
@@ -46,7 +46,7 @@ class Pair:
 
     def __init__(self, programs, folder, sessions, is_bare, carrier, store):
         self.names, self.count, dice = [f"s{it:04}" for it in range(sessions)], 0, random.Random(1)
-        errors.Ends.write(f"{folder}/sessions", [f"{it} 0 18 priv {dice.randbytes(32).hex()} 1 10.0.0.1 10.0.0.2\n"
+        cases.Place.write(f"{folder}/sessions", [f"{it} 0 18 priv {dice.randbytes(32).hex()} 1 10.0.0.1 10.0.0.2\n"
                                                  for it in self.names])
         both = ["--sessions", f"{folder}/sessions", "--carrier", carrier]
         words = [[f"{programs}/bare", "send", f"{folder}/outbox.db", carrier],

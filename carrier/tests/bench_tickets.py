@@ -8,7 +8,7 @@ import subprocess
 import time
 
 import bench
-import errors
+import cases
 import loglines
 import realms
 
@@ -19,7 +19,7 @@ RUNS = 3
 
 
 def put(path, rows):
-    with errors.opened(path) as file:
+    with cases.opened(path) as file:
         file.executemany("INSERT INTO text (session, body) VALUES (?, ?)", rows)
 
 
@@ -28,7 +28,7 @@ def await_rows(path, count):
     until = time.monotonic() + LIMIT
     while time.monotonic() < until:
         if os.path.exists(path):
-            with contextlib.suppress(sqlite3.OperationalError), errors.opened(path) as file:   # no table yet
+            with contextlib.suppress(sqlite3.OperationalError), cases.opened(path) as file:   # no table yet
                 if file.execute("SELECT count(*) FROM effect").fetchone()[0] >= count:
                     return
         time.sleep(0.02)
@@ -69,14 +69,14 @@ def write_sessions(folder, has_receipts):
     for it in range(SESSIONS):
         key, back = dice.randbytes(32).hex(), dice.randbytes(32).hex()
         lines.append(f"s{it} 0 18 priv {key} 1 10.0.0.1 10.0.0.2 {back if has_receipts else ''}\n")
-    errors.Ends.write(f"{folder}/sessions", lines)
+    cases.Place.write(f"{folder}/sessions", lines)
 
 
 def both_ends(programs, folder, has_receipts):
     """The seconds until all took effect, and, with receipts, until the outbox has learned it."""
     os.makedirs(folder)
     write_sessions(folder, has_receipts)
-    ends = errors.Ends(programs, f"{folder}/ends")
+    ends = cases.Place(programs, f"{folder}/ends", cases.Case(None, ""))
     write_sessions(f"{folder}/ends", has_receipts)
     ends.run("sender", "--drain")
     put(ends.outbox, [(f"s{it % SESSIONS}", b"x" * BYTES) for it in range(TEXTS)])
@@ -86,7 +86,7 @@ def both_ends(programs, folder, has_receipts):
     try:
         await_rows(ends.store.removeprefix("sqlite:"), TEXTS)
         took, learned = time.monotonic() - began, None
-        with errors.opened(ends.outbox) as file:
+        with cases.opened(ends.outbox) as file:
             while has_receipts and file.execute("SELECT count(*) FROM frame").fetchone()[0] > 0:
                 time.sleep(0.02)
         learned = time.monotonic() - began

@@ -1,10 +1,11 @@
 """Cases of senders and receivers: what is done, what has to be delivered, within how many seconds. A case is a function
-below a decorator, which puts it into the table of its module (repro.py, receipts.py, safety.py, tickets.py; of machines
-machine_cases.py and two_faults.py). They run in the order of their tables.
+below a decorator, which puts it into the table of its module; `tested` makes tests of a table (test_repro.py,
+test_receipts.py, test_safety.py, test_shown.py, test_tickets.py; of machines test_machines.py and test_two_faults.py).
 
-What more has to hold, such as a line of the log, is asked in the function. Its `place` has the files of one case, its
-processes, and what it found wrong."""
+What more has to hold, such as a line of the log, is asserted in the function. Its `place` has the files of one case and
+its processes."""
 import collections
+import contextlib
 import dataclasses
 import glob
 import os
@@ -13,21 +14,23 @@ import signal
 import sqlite3
 import struct
 import subprocess
+import threading
 import time
 import typing
 import urllib.error
 import urllib.request
 
 import engines
-import errors
 import jetstream
 import loglines
-from errors import opened
 
-STATUS = errors.STATUS
+STATUS = os.path.join(os.path.dirname(os.path.abspath(__file__)), "..", "status")
+LIMIT = 30              # seconds for one program
+TO_END = 5              # seconds for an end by SIGTERM
 LAST = 2**32 - 1        # the last number of a session
 TOLD = 300              # characters of a log that a fault has
-ANN, TOM = (line.replace("safe", "priv") for line in errors.SESSIONS)
+SESSIONS = (f"ann 0 17 safe {'11' * 16} 1 10.0.0.1 10.0.0.255\n", f"tom 0 18 priv {'22' * 32} 1 10.0.0.2 10.0.0.255\n")
+ANN, TOM = (line.replace("safe", "priv") for line in SESSIONS)
 ABE = ANN.replace("ann", "abe").replace("11" * 16, "44" * 16)
 TOM_1 = TOM.replace("tom 0", "tom 1")
 WITH_RECEIPTS = ANN.rstrip("\n") + f" {'33' * 16}\n"    # ann's line with a key of the way back
@@ -52,16 +55,20 @@ class Named:
     done: str
     given: tuple = dataclasses.field(default=(), kw_only=True)      # what it is given beside the place
     called: str = dataclasses.field(default="", kw_only=True)       # where it is more than one case
+    is_quick: bool = dataclasses.field(default=False, kw_only=True)     # the gate has it, and not --all alone
 
     def name(self):
         return self.called or self.run.__name__
+
+    def do(self, place):
+        self.run(place, *self.given)
 
 
 @dataclasses.dataclass
 class Case(Named):
     """How many texts of each session have to be delivered, in order and each once; within how many seconds."""
-    wanted: dict
-    seconds: float
+    wanted: dict = dataclasses.field(default_factory=dict)
+    seconds: float = LIMIT
     lines: tuple = (ANN, TOM)
     shards: str = "0"
     nats: str = None        # further lines of the node's configuration
@@ -82,13 +89,15 @@ def table(kind=Case, **usual):
     return found, case
 
 
-def chosen(found, names):
-    """All cases of tables, or those that are named."""
-    named = {it.name(): it for it in found}
-    absent = [it for it in names if it not in named]
-    if absent:
-        raise KeyError(f"there is no case {absent}: the cases are {' '.join(named)}")
-    return [it for name, it in named.items() if not names or name in names]
+def tested(found):
+    """The tests of a table: each does one case, at the place that the fixture makes for it."""
+    import pytest       # here, since carrier/bench does without it
+
+    @pytest.mark.parametrize("place", [
+        pytest.param(it, id=it.name(), marks=() if it.is_quick else pytest.mark.slow) for it in found], indirect=True)
+    def test_case(place):
+        place.case.do(place)
+    return test_case
 
 
 # ---- how often programs wait
@@ -110,15 +119,54 @@ def wakes_in(seconds, *processes):
 
 # ---- a case's files and processes
 
-class Place(errors.Ends):
-    """The files of one case, its processes, and what it found wrong."""
+@contextlib.contextmanager
+def opened(path):
+    """A database, whose transaction is committed if nothing goes wrong."""
+    with contextlib.closing(sqlite3.connect(path, timeout=LIMIT)) as file, file:
+        yield file
+
+
+def hold(path, seconds):
+    """Keeps a file locked for so long."""
+    file = sqlite3.connect(path, timeout=LIMIT, check_same_thread=False)
+    file.execute("BEGIN IMMEDIATE")
+
+    def let_go():
+        time.sleep(seconds)
+        file.rollback()
+        file.close()
+    thread = threading.Thread(target=let_go)
+    thread.start()
+    return thread
+
+
+class Place:
+    """The files of one case, and its processes, which end with it. Then their logs are looked at."""
 
     def __init__(self, programs, folder, case):
-        super().__init__(programs, folder)
-        self.case, self.faults, self.running, self.nats = case, [], [], None
-        self.began, self.told, self.env = time.monotonic(), "", dict(os.environ)
-        self.shards = case.shards
+        self.programs, self.folder, self.case, self.shards = programs, folder, case, case.shards
+        os.makedirs(folder)
+        self.sessions, self.outbox = f"{folder}/sessions", f"{folder}/outbox.db"
+        self.carrier, self.store = f"sqlite:{folder}/carrier.db", f"sqlite:{folder}/store.db"
+        self.running, self.nats, self.began, self.env = [], None, time.monotonic(), dict(os.environ)
         self.write(self.sessions, case.lines)
+
+    def __enter__(self):
+        if self.case.nats is not None:
+            self.start_nats(self.case.nats)
+            self.began = time.monotonic()
+        return self
+
+    def __exit__(self, kind, *_):
+        self.stop()
+        if kind is None:
+            self.check_logs()
+
+    @staticmethod
+    def write(path, lines):
+        """Writes a file of sessions, which only its owner may read."""
+        with open(os.open(path, os.O_WRONLY | os.O_CREAT | os.O_TRUNC, 0o600), "w", encoding="ascii") as file:
+            file.writelines(lines)
 
     # ---- programs
 
@@ -132,10 +180,12 @@ class Place(errors.Ends):
         return jetstream.request(self.nats.ports[0], subject, **body)
 
     def command(self, name, *more, **other):
-        words = {"shards": self.shards} if name == "receiver" else {}
-        return super().command(name, *more, **words | other)
+        """A program with its options, some of which may be others."""
+        own = {"outbox": self.outbox} if name == "sender" else {"store": self.store, "shards": self.shards}
+        given = {"sessions": self.sessions, "carrier": self.carrier} | own | other
+        return [f"{self.programs}/{name}", *more, *(word for key, value in given.items() for word in (f"--{key}", value))]
 
-    def run(self, name, *more, seconds=errors.LIMIT, clock=0, **other):
+    def run(self, name, *more, seconds=LIMIT, clock=0, **other):
         """Runs a program, at most so many seconds: its status, None where it hasn't ended, and what
         it prints."""
         process = self.start(name, *more, clock=clock, **other)
@@ -149,8 +199,8 @@ class Place(errors.Ends):
     def require_run(self, name, *more, status=0, event=None, words="", what="", **other):
         """The same, which has to end with this status, and with such a line of the log. What it prints."""
         ended, told = self.run(name, *more, **other)
-        self.require(ended == status and (event is None or loglines.has(told, event, words)),
-                     f"{what or ' '.join([name, *more])}: status {ended}: {told[-TOLD:]}")
+        assert ended == status and (event is None or loglines.has(told, event, words)), \
+            f"{what or ' '.join([name, *more])}: status {ended}: {told[-TOLD:]}"
         return told
 
     def drain(self, **other):
@@ -189,7 +239,7 @@ class Place(errors.Ends):
         for process in processes:
             if process.poll() is None:
                 process.send_signal(signal.SIGTERM)
-                process.wait(errors.LIMIT)
+                process.wait(LIMIT)
 
     @staticmethod
     def kill(*processes):
@@ -205,11 +255,12 @@ class Place(errors.Ends):
     def check_logs(self):
         """Each line of each program has its form, none comes too often, and none has a key or a
         password. What is wrong with the options is said in words, with status 2."""
-        secrets = [*WORDS.values(), *(line.split()[4] for line in self.case.lines)]
+        secrets, faults = [*WORDS.values(), *(line.split()[4] for line in self.case.lines)], []
         for process in self.running:
-            self.faults += [f"a log has {word}" for word in secrets if word in self.log(process)]
+            faults += [f"a log has {word}" for word in secrets if word in self.log(process)]
             if process.returncode != 2 and not {"--help", "--version"} & set(process.args):
-                self.faults += loglines.faults(self.log(process))
+                faults += loglines.faults(self.log(process))
+        assert faults == []
 
     def step_clocks(self, seconds):
         """From now on the wall clock of what is started after the first call is ahead by so many seconds."""
@@ -294,15 +345,11 @@ class Place(errors.Ends):
 
     def status(self, *words):
         """The status of carrier/status, and the lines that it prints, by their first words."""
-        done = subprocess.run([STATUS, *words], check=False, timeout=errors.LIMIT, stdout=subprocess.PIPE,
+        done = subprocess.run([STATUS, *words], check=False, timeout=LIMIT, stdout=subprocess.PIPE,
                               stderr=subprocess.STDOUT, text=True)
         return done.returncode, {line.split()[0]: line.split() for line in done.stdout.splitlines()}
 
     # ---- what has to hold
-
-    def require(self, fine, what):
-        if not fine:
-            self.faults.append(what)
 
     def is_delivered(self, wanted):
         found = self.delivered()
@@ -319,8 +366,7 @@ class Place(errors.Ends):
 
     def expect(self, is_so, what, seconds=5):
         """It has to be so within so many seconds. `what` says what isn't, or gives it once the time has passed."""
-        if not self.wait(is_so, seconds):
-            self.faults.append(what if isinstance(what, str) else what())
+        assert self.wait(is_so, seconds), what if isinstance(what, str) else what()
 
     def expect_delivered(self, wanted, what="nothing is delivered", seconds=8):
         self.expect(lambda: self.is_delivered(wanted), what, seconds)
@@ -332,9 +378,8 @@ class Place(errors.Ends):
         """Waits until all is delivered that has to be, until the case's time has passed."""
         wanted = wanted or self.case.wanted
         left = self.case.seconds - (time.monotonic() - self.began)
-        if not self.wait(lambda: self.is_delivered(wanted), left):
-            found = {name: len(had) for name, had in self.delivered().items()}
-            self.faults.append(f"delivered {found} of {wanted}")
+        self.expect(lambda: self.is_delivered(wanted), lambda: "delivered "
+                    f"{ {name: len(had) for name, had in self.delivered().items()} } of {wanted}", left)
 
     def receive(self, *more, **other):
         """A receiver that runs until all is delivered, and goes on."""
@@ -366,10 +411,10 @@ class Place(errors.Ends):
     def require_stopped(self, name, word, of="outbox"):
         """The outbox says that this session is stopped, and why."""
         reasons = self.ask(of, "SELECT session, reason FROM stopped")
-        self.require(any(it == name and word in reason for it, reason in reasons), f"stopped: {reasons}")
+        assert any(it == name and word in reason for it, reason in reasons), f"stopped: {reasons}"
 
     def require_running(self, *processes):
-        self.require(all(it.poll() is None for it in processes), "a program has ended")
+        assert all(it.poll() is None for it in processes), "a program has ended"
 
 
 def get(port, path):
@@ -387,23 +432,3 @@ def numbers(port):
     """The metrics that a program shows: each with its labels and its number."""
     lines = get(port, "/metrics")[1].splitlines()
     return dict(line.rsplit(" ", 1) for line in lines if " " in line and line[0] != "#")
-
-
-def judged(place, words):
-    """Does a case, to its end: whether it went right, its line with these words before it, and what went wrong."""
-    case = place.case
-    try:
-        if getattr(case, "nats", None) is not None:
-            place.start_nats(case.nats)
-            place.began = time.monotonic()
-        case.run(place, *case.given)
-    finally:
-        place.stop()
-    place.check_logs()
-    took = time.monotonic() - place.began
-    return not place.faults, f"{words}: {case.done}: {took:.1f} s{place.told}", place.faults[:10]
-
-
-def run(programs, folder, case):
-    """One case of a sender and a receiver."""
-    return judged(Place(programs, folder, case), f"repro {case.name()}")

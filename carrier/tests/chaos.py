@@ -25,7 +25,7 @@ import threading
 import time
 
 import engines
-import errors
+import cases
 import evidence
 import jetstream
 import loglines
@@ -232,7 +232,7 @@ class Feeder:
     def has_none(self, *kinds):
         left = 0
         for path in self.paths:
-            with errors.opened(path) as file:
+            with cases.opened(path) as file:
                 left += sum(file.execute(f"SELECT count(*) FROM {rows}").fetchone()[0] for rows in kinds)
         return left == 0
 
@@ -326,7 +326,7 @@ class Noise:
 
     def disturb_file(self, shard):
         """Some frames from a drawn place of a shard on: so many."""
-        with errors.opened(self.path) as file:
+        with cases.opened(self.path) as file:
             end = file.execute("SELECT max(offset) FROM carried").fetchone()[0]
             rows = file.execute("SELECT session, frame FROM carried WHERE shard = ? AND offset >= ? LIMIT ?",
                                 (shard, self.dice.randrange(end or 1), NOISY)).fetchall()
@@ -392,7 +392,7 @@ class Trial:
             self.write_sessions(sender, lambda it, wanted=sender: it.sender == wanted)
 
     def write_sessions(self, name, is_wanted):
-        errors.Ends.write(f"{self.folder}/sessions{name}", [it.line() for it in self.sessions if is_wanted(it)])
+        cases.Place.write(f"{self.folder}/sessions{name}", [it.line() for it in self.sessions if is_wanted(it)])
 
     def start_engines(self):
         if self.given.carrier != "sqlite":
@@ -410,7 +410,6 @@ class Trial:
                 *self.processes.common, "--shards", ",".join(map(str, range(self.given.shards)))]
 
     def run(self):
-        """Returns whether all went right."""
         try:
             self.start_engines()
             self.disturb_all()
@@ -420,7 +419,6 @@ class Trial:
             for engine in (self.nats, self.postgres):
                 if engine:
                     engine.stop()
-        return not self.faults
 
     def start_processes(self):
         """Each outbox is made before the first text: a sender with nothing to do ends."""
@@ -494,7 +492,7 @@ class Trial:
             return rows, {name: (int(number), int(closed)) for name, number, closed in ends}
         rows, ends = [], {}
         for path in glob.glob(store[len("sqlite:"):].replace("%", "*")):
-            with errors.opened(path) as file:
+            with cases.opened(path) as file:
                 rows += file.execute("SELECT session, number, text FROM effect ORDER BY id")
                 ends |= {name: (number, closed) for name, number, closed in
                          file.execute("SELECT name, next, closed FROM session")}
@@ -528,7 +526,7 @@ class Trial:
         if self.nats:
             return [(name, frame) for shard in range(self.given.shards)
                     for _, name, frame in jetstream.frames(self.nats.ports[0], shard, patience=DUMPED)]
-        with errors.opened(self.where.removeprefix("sqlite:")) as file:
+        with cases.opened(self.where.removeprefix("sqlite:")) as file:
             return file.execute("SELECT session, frame FROM carried ORDER BY shard, offset").fetchall()
 
     def check_shards(self):

@@ -1,4 +1,5 @@
-"""The servers of carrier/test, on the loopback: JetStream of one or three nodes, PostgreSQL."""
+"""The servers of the carrier's tests, on the loopback: JetStream of one or three nodes, PostgreSQL."""
+import contextlib
 import glob
 import os
 import random
@@ -6,10 +7,19 @@ import shutil
 import signal
 import socket
 import subprocess
+import tempfile
 import time
 
 PATIENCE = 30       # seconds for a server to answer
 ELECTION = 3        # seconds until three nodes have a leader
+
+
+@contextlib.contextmanager
+def new_folder():
+    """A folder for a while, in which a server under another user may have another."""
+    with tempfile.TemporaryDirectory() as made:
+        os.chmod(made, 0o755)
+        yield made
 
 
 def free_ports(count):
@@ -154,6 +164,15 @@ class Postgres:
         """To the server and each of its processes."""
         for process in with_children(self.server.pid):
             os.kill(process, number)
+
+    @contextlib.contextmanager
+    def stopped(self):
+        """It doesn't answer meanwhile. A server that is stopped takes no signal to end."""
+        self.signal_all(signal.SIGSTOP)
+        try:
+            yield
+        finally:
+            self.signal_all(signal.SIGCONT)
 
     def restart(self, seconds):
         """Ends it at once, and starts it again after so many seconds."""

@@ -1,7 +1,7 @@
 """Eight machines on one: three nodes of JetStream, two senders, two receivers and PostgreSQL. Each is
 a network namespace with a wire to one switch in user space (switch.py), which loses, delays and
 reorders as it is told. A disk may be a file system on an image: a copy of the image at a moment is
-what a loss of power leaves. machine_cases.py and two_faults.py have what is done to them.
+what a loss of power leaves. test_machines.py and test_two_faults.py have what is done to them.
 
 An application puts texts into the outboxes all the while. At the end each session is closed.
 """
@@ -23,7 +23,7 @@ import threading
 import time
 
 import engines
-import errors
+import cases
 import evidence
 import jetstream
 
@@ -52,9 +52,9 @@ connection.request("GET", sys.argv[2])
 answer = connection.getresponse()
 print(answer.status, answer.read().decode())
 """
+POSTGRES = "/usr/lib/postgresql/*/bin"
 AS_POSTGRES = ("setpriv", "--reuid", "postgres", "--regid", "postgres", "--clear-groups")
 TURNS = itertools.count()
-MAKING = threading.Lock()           # of the database that is copied
 
 
 def missing():
@@ -240,16 +240,27 @@ class Process:
     is_tended: bool     # it is started again where it ends
 
 
-class World:
-    """The machines, their processes and what was sent."""
+def make_template(path):
+    """A cluster of PostgreSQL, of which each case gets a copy."""
+    os.makedirs(path, 0o700)
+    shutil.chown(path, "postgres", "postgres")
+    run(*AS_POSTGRES, f"{max(glob.glob(POSTGRES))}/initdb", "-D", path, "-U", "postgres", "-A", "trust", "--no-sync",
+        cwd="/")
+    with open(f"{path}/pg_hba.conf", "a", encoding="ascii") as file:
+        file.write("host all all 10.77.0.0/24 trust\n")
 
-    def __init__(self, folder, programs, network, options):
-        self.folder, self.programs, self.network, self.options = folder, programs, network, options
+
+class World:
+    """The machines of a case, their processes and what was sent."""
+
+    def __init__(self, folder, programs, network, case):
+        self.folder, self.programs, self.network, self.case = folder, programs, network, case
+        self.options = options = Options(**case.made)
         self.processes, self.disks, self.clocks = {}, {}, dict(options.clocks)
         self.shards_of = dict(options.shards_of)
         self.counts, self.lock, self.ending = collections.Counter(), threading.RLock(), False
         self.feeding = threading.Lock()
-        self.sent, self.samples, self.notes = collections.defaultdict(list), [], []
+        self.sent, self.samples = collections.defaultdict(list), []
         self.put_before_restore = {}        # so many texts of each session, where an outbox is restored
         self.where = ",".join(f"nats://{ADDRESS[node]}:{CLIENT}" for node in NODES)
         self.store = f"postgresql://postgres@{ADDRESS[DATABASE]}/postgres"
@@ -306,10 +317,6 @@ class World:
             if self.processes[name].running.poll() is None:
                 self.processes[name].running.send_signal(number)
 
-    def require(self, fine, what):
-        if not fine:
-            self.notes.append(what)
-
     def stop(self, *names):
         """The machines' processes end at once and aren't started again."""
         for name in names:
@@ -318,16 +325,17 @@ class World:
                 self.signal([name], signal.SIGKILL)
                 self.processes[name].running.wait()
 
-    def require_end(self, names):
-        """SIGTERM ends these in time, and in order. They are started again."""
+    def ended(self, *names):
+        """SIGTERM ends these in time, and in order; they are started again. What is wrong with that."""
         running = [self.processes[name].running for name in names]
         for it in running:
             it.send_signal(signal.SIGTERM)
-        until = time.monotonic() + errors.TO_END
-        for name, it in zip(names, running):
+        until = time.monotonic() + cases.TO_END
+        for it in running:
             with contextlib.suppress(subprocess.TimeoutExpired):
                 it.wait(max(0, until - time.monotonic()))
-            self.require(it.poll() == 0, f"{name} was told to end: {it.poll()} after {errors.TO_END} s")
+        return [f"{name} was told to end: {it.poll()} after {cases.TO_END} s" for name, it in zip(names, running)
+                if it.poll() != 0]
 
     def restart(self, *names):
         """The processes are killed, and started again as they were."""
@@ -349,20 +357,11 @@ class World:
         self.spawn(name, "nats-server", "-c", path, "-l", f"{self.folder}/{name}.nats.log")
 
     def make_database(self, template):
-        """A copy of a cluster that initdb made, which is made first."""
-        programs = max(glob.glob("/usr/lib/postgresql/*/bin"))
-        with MAKING:
-            if not os.path.exists(template):
-                os.makedirs(template, 0o700)
-                shutil.chown(template, "postgres", "postgres")
-                run(*AS_POSTGRES, f"{programs}/initdb", "-D", template, "-U", "postgres", "-A",
-                    "trust", "--no-sync", cwd="/")
-                with open(f"{template}/pg_hba.conf", "a", encoding="ascii") as file:
-                    file.write("host all all 10.77.0.0/24 trust\n")
+        """A copy of a cluster that initdb made."""
         run("cp", "-a", template, f"{self.folder}/data")
         os.makedirs(f"{self.folder}/socket")
         os.chmod(f"{self.folder}/socket", 0o777)
-        self.database = [*AS_POSTGRES, f"{programs}/postgres", "-D", f"{self.folder}/data",
+        self.database = [*AS_POSTGRES, f"{max(glob.glob(POSTGRES))}/postgres", "-D", f"{self.folder}/data",
                          "-c", f"listen_addresses={ADDRESS[DATABASE]}",
                          "-c", f"unix_socket_directories={self.folder}/socket",
                          "-c", "shared_buffers=64MB", "-c", "max_wal_size=1GB"]
@@ -446,7 +445,7 @@ class World:
     def write_lines(self, path, names):
         """Puts a file with the lines of these sessions in the place of one that may be there."""
         lines = self.lines()
-        errors.Ends.write(path + ".new", [lines[name] for name in names])
+        cases.Place.write(path + ".new", [lines[name] for name in names])
         os.rename(path + ".new", path)
 
     def write_sessions(self):
@@ -476,7 +475,7 @@ class World:
     def has_outbox(self, sender):
         if not os.path.exists(self.outbox(sender)):
             return False
-        with contextlib.suppress(sqlite3.Error), errors.opened(self.outbox(sender)) as file:
+        with contextlib.suppress(sqlite3.Error), cases.opened(self.outbox(sender)) as file:
             return file.execute("SELECT turn FROM owner").fetchone()[0] > 0
         return False
 
@@ -484,7 +483,7 @@ class World:
 
     def copy_outbox(self, sender, path):
         """What the outbox has at one moment."""
-        with errors.opened(self.outbox(sender)) as source, errors.opened(path) as target:
+        with cases.opened(self.outbox(sender)) as source, cases.opened(path) as target:
             source.backup(target)
 
     def restore_outbox(self, sender, path):
@@ -512,7 +511,7 @@ class World:
     def put(self, sender, rows):
         """Puts rows into an outbox. Whether they are there for good."""
         try:
-            with errors.opened(self.outbox(sender)) as file:
+            with cases.opened(self.outbox(sender)) as file:
                 file.executemany("INSERT INTO text (session, body) VALUES (?, ?)", rows)
             return True
         except sqlite3.Error:
@@ -609,7 +608,7 @@ class World:
     def status(self):
         """Each session that stands or is stopped, with what carrier/status says of it."""
         outboxes = (word for it in SENDERS for word in ("--outbox", self.outbox(it)))
-        done = subprocess.run(self.network.command(DATABASE, errors.STATUS, *outboxes, "--store", self.store,
+        done = subprocess.run(self.network.command(DATABASE, cases.STATUS, *outboxes, "--store", self.store,
                                                    "--standing"), check=False, stdout=subprocess.PIPE,
                               text=True, timeout=PATIENCE)
         return {line.split()[0]: line for line in done.stdout.splitlines()

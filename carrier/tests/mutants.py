@@ -1,4 +1,4 @@
-"""Mutants of carrier/, each with a planted bug that chaos, one case of repro.py and its like, or an opening that isn't
+"""Mutants of carrier/, each with a planted bug that chaos, one case of test_repro.py and its like, or an opening that isn't
 right has to find: its name, the file, the text that stands there once, and what takes its place."""
 import shutil
 

@@ -12,11 +12,11 @@ import sys
 import time
 
 import pytest
+from builds import SOURCES
+from cases import Place, opened
 
 from lib.build import c_tools
 
-HERE = os.path.dirname(os.path.abspath(__file__))
-SOURCES = os.path.dirname(HERE)
 KEY = "0 18 priv " + "22" * 32 + " 1 10.0.0.2 10.0.0.255"
 TEXTS = 1500
 TO_WAIT = 60            # seconds
@@ -81,42 +81,13 @@ def end(*processes, seconds=30):
         assert it.wait(seconds) == 0
 
 
-def write_private(path, text):
-    """Writes a file of its owner alone."""
-    with open(path, "w", encoding="ascii", opener=lambda path, how: os.open(path, how, 0o600)) as file:
-        file.write(text)
-
-
-def both_programs(shared, prefix, name, postgresql="no"):
-    """A folder of this name with sender and receiver, without NATS."""
-    def build(folder):
-        done = subprocess.run(["make", "-C", SOURCES, f"OUT={folder}", f"PREFIX={prefix}", "WITH_NATS=no",
-                               f"CC={' '.join(c_tools.c_compiler())}", f"WITH_POSTGRESQL={postgresql}"],
-                              check=False, capture_output=True, text=True)
-        assert done.returncode == 0, done.stdout + done.stderr
-    return shared.once(name, build)
-
-
-@pytest.fixture(scope="module")
-def programs(shared, prefix):
-    return both_programs(shared, prefix, "programs_of_effects")
-
-
-@pytest.fixture(autouse=True)
-def _files_of_their_owner_alone():
-    """A database that a test looks at before its program makes it is the test's."""
-    before = os.umask(0o077)
-    yield
-    os.umask(before)
-
-
 class Ends:
     """Both ends of one session, in a folder."""
 
     def __init__(self, programs, folder, prefix):
         self.programs, self.folder, self.prefix = programs, str(folder), prefix
         self.both = ["--sessions", f"{folder}/sessions", "--carrier", f"sqlite:{folder}/carrier.db"]
-        write_private(f"{folder}/sessions", f"tom {KEY}\nann {KEY.replace('22' * 32, '23' * 32)}\n")
+        Place.write(f"{folder}/sessions", [f"tom {KEY}\nann {KEY.replace('22' * 32, '23' * 32)}\n"])
         self.batch, self.store = "1", f"sqlite:{folder}/store.db"
         self.sender("--drain").wait()
 
@@ -131,11 +102,11 @@ class Ends:
         return self.start("receiver", "--store", self.store, "--shards", "0", *words)
 
     def run(self, name, script, *values):
-        with contextlib.closing(sqlite3.connect(f"{self.folder}/{name}.db", timeout=30)) as file, file:
+        with opened(f"{self.folder}/{name}.db") as file:
             return file.execute(script, *values).fetchall()
 
     def put(self, texts, session="tom"):
-        with contextlib.closing(sqlite3.connect(f"{self.folder}/outbox.db", timeout=30)) as file, file:
+        with opened(f"{self.folder}/outbox.db") as file:
             file.executemany("INSERT INTO text (session, body) VALUES (?, ?)", [(session, it) for it in [*texts, None]])
         if session == "tom":
             self.run("outbox", "INSERT INTO text (session, body) SELECT 'ann', NULL"
@@ -191,8 +162,8 @@ class Ends:
 
 
 @pytest.fixture
-def ends(programs, tmp_path, prefix):
-    return Ends(programs, tmp_path, prefix)
+def ends(shipped, tmp_path, prefix):
+    return Ends(shipped, tmp_path, prefix)
 
 
 def compiled(ends):
@@ -401,7 +372,7 @@ def test_a_store_that_is_another_file_is_noticed(ends):
     ends.put(texts(5)[:-1])
     waits(ends, seconds=1)
     os.rename(f"{ends.folder}/store.db", f"{ends.folder}/older.db")
-    with contextlib.closing(sqlite3.connect(f"{ends.folder}/older.db")) as before, before:
+    with opened(f"{ends.folder}/older.db") as before:
         before.execute("PRAGMA wal_checkpoint(TRUNCATE)")
     receiver = ends.receiver()
     ends.await_frames(3)

@@ -1,16 +1,13 @@
 """The effects of --effect and of --put-aside over PostgreSQL, whose answers come later than the statements."""
 import contextlib
 import json
-import os
-import shutil
 import subprocess
-import tempfile
 
-import engines
+import builds
 import psycopg2
 import pytest
 from test_put_get import carrier, ran
-from test_effects import Ends, await_so, both_programs, compiled, end, most_times, texts
+from test_effects import Ends, await_so, compiled, end, most_times, texts
 
 # A cast isn't a name, and nor is what is in quotes.
 STATEMENT = "sql:INSERT INTO mine (session, number, part, text, again) VALUES (:session, :number, :part::int, :text, ':no')"
@@ -20,18 +17,9 @@ REFUSES = "CHECK (text != 'bad')"
 
 
 @pytest.fixture(scope="module")
-def programs(shared, prefix):
-    return both_programs(shared, prefix, "programs_of_effects_postgresql", "yes")
-
-
-@pytest.fixture(scope="module")
-def server():
-    folder = tempfile.mkdtemp()
-    os.chmod(folder, 0o755)
-    made = engines.Postgres(folder)
-    yield made
-    made.stop()
-    shutil.rmtree(folder)
+def with_postgresql(shared, prefix):
+    return shared.once("with_postgresql", lambda folder: builds.shipped(
+        folder, prefix, "WITH_NATS=no", "WITH_POSTGRESQL=yes"))
 
 
 class OverPostgresql(Ends):
@@ -56,8 +44,8 @@ class OverPostgresql(Ends):
 
 
 @pytest.fixture
-def ends(programs, tmp_path, prefix, server):
-    return OverPostgresql(programs, tmp_path, prefix, server)
+def ends(with_postgresql, tmp_path, prefix, postgres):
+    return OverPostgresql(with_postgresql, tmp_path, prefix, postgres)
 
 
 @pytest.mark.parametrize("tries", ["0", "1"])

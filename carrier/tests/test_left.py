@@ -1,12 +1,10 @@
 """No block that a sender or a receiver frees, and none that realloc leaves, has a key of a session, or one that is
 derived from it: in whole runs with receipts, where the file of keys is refused, and where an allocation fails.
 What SQLite frees has texts, so these are looked for in the units alone (left.h)."""
-import contextlib
-import sqlite3
 import subprocess
 
 import pytest
-from test_effects import both_programs, write_private
+from cases import Place, opened
 
 from lib import scripts
 from lib.build import c_tools
@@ -19,11 +17,6 @@ MOST = 20_000           # allocations of a run
 LAST = 60               # of which so many come after all is opened: each of these fails once
 
 
-@pytest.fixture(scope="module")
-def programs(shared, prefix):
-    return both_programs(shared, prefix, "programs_of_left")
-
-
 class Watched:
     """Both programs over SQLite in a folder, each block of which is looked at when it is freed."""
 
@@ -33,7 +26,7 @@ class Watched:
         self.watch, self.strings = freed_memory.Watch(self.folder), freed_memory.strings_of(KEYS)
 
     def file(self, text=LINE):
-        write_private(f"{self.folder}/sessions", text)
+        Place.write(f"{self.folder}/sessions", [text])
 
     def run(self, name, *words, refuse=0):
         """Its status, how many blocks it freed, and what was found in them."""
@@ -46,13 +39,13 @@ class Watched:
 
     def put(self, count):
         rows = ", ".join(["('tom', 'a text')"] * count + ["('tom', NULL)"])
-        with contextlib.closing(sqlite3.connect(f"{self.folder}/outbox.db")) as file, file:
+        with opened(f"{self.folder}/outbox.db") as file:
             file.execute(f"INSERT INTO text (session, body) VALUES {rows}")
 
 
 @pytest.fixture
-def watched(programs, tmp_path):
-    made = Watched(programs, tmp_path)
+def watched(shipped, tmp_path):
+    made = Watched(shipped, tmp_path)
     made.file()
     return made
 

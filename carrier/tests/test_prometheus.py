@@ -5,21 +5,18 @@ import json
 import os
 import re
 import shutil
-import sqlite3
 import subprocess
 import tempfile
 import time
 import urllib.parse
 import urllib.request
 
+import builds
 import engines
 import pytest
-from test_effects import write_private
+from builds import SOURCES
+from cases import Place, opened
 
-from lib.build import c_tools
-
-HERE = os.path.dirname(os.path.abspath(__file__))
-SOURCES = os.path.dirname(HERE)
 MONITORING = os.path.join(SOURCES, "monitoring")
 TO_WAIT = 60            # seconds
 TEXTS = 50
@@ -88,7 +85,7 @@ def test_units_allow_what_the_programs_call(prefix, of_nobody):
     """The filter of both units has each call of a session over SQLite with metrics and a command as its effect."""
     allowed = calls_of("@system-service") - calls_of("@privileged") - calls_of("@resources")
     build(f"{of_nobody}/programs", prefix)
-    write_private(f"{of_nobody}/sessions", f"tom {KEY}\n")
+    Place.write(f"{of_nobody}/sessions", [f"tom {KEY}\n"])
     for path in (of_nobody, f"{of_nobody}/sessions"):
         shutil.chown(path, "nobody", "nogroup")
     of_sender, of_receiver = (f"127.0.0.1:{port}" for port in engines.free_ports(2))
@@ -104,14 +101,12 @@ def test_units_allow_what_the_programs_call(prefix, of_nobody):
 # ---- a Prometheus that runs
 
 def build(out, prefix):
-    done = run("make", "-C", SOURCES, f"OUT={out}", f"PREFIX={prefix}", f"CC={' '.join(c_tools.c_compiler())}",
-               "WITH_NATS=no", "WITH_POSTGRESQL=no", "WITH_METRICS=yes")
-    assert done.returncode == 0, done.stdout + done.stderr
+    builds.shipped(out, prefix, *builds.ALONE, "WITH_METRICS=yes")
 
 
 def put_texts(path, with_close=False):
     texts = [b"text %d" % it for it in range(TEXTS)] + [None] * with_close
-    with contextlib.closing(sqlite3.connect(path, timeout=30)) as file, file:
+    with opened(path) as file:
         file.executemany("INSERT INTO text (session, body) VALUES ('tom', ?)", [(it,) for it in texts])
 
 
@@ -161,7 +156,7 @@ def scraped(prefix, tmp_path_factory):
     folder = str(tmp_path_factory.mktemp("prometheus"))
     build(f"{folder}/programs", prefix)
     of_sender, of_receiver, own = engines.free_ports(3)
-    write_private(f"{folder}/sessions", f"tom {KEY}\n")
+    Place.write(f"{folder}/sessions", [f"tom {KEY}\n"])
     with open(os.path.join(MONITORING, "prometheus.yml"), encoding="utf-8") as file:
         config = file.read().replace("9750", str(of_sender)).replace("9751", str(of_receiver)).replace("15s", "1s")
     with open(f"{folder}/prometheus.yml", "w", encoding="utf-8") as file:

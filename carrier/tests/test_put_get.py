@@ -11,8 +11,8 @@ import subprocess
 import sys
 
 import pytest
-from test_effects import (  # noqa: F401
-    SOURCES, TO_WAIT, Ends, _files_of_their_owner_alone, await_so, both_programs, end)
+from builds import SOURCES
+from test_effects import TO_WAIT, Ends, await_so, end
 
 from lib.build import building
 
@@ -23,14 +23,9 @@ MODULE = os.path.join(building.TOP, "python", "krbrelay", "carrier.py")
 STATUS = os.path.join(SOURCES, "status")
 
 
-@pytest.fixture(scope="module")
-def programs(shared, prefix):
-    return both_programs(shared, prefix, "programs_of_put_get")
-
-
 @pytest.fixture
-def ends(programs, tmp_path, prefix):
-    return Ends(programs, tmp_path, prefix)
+def ends(shipped, tmp_path, prefix):
+    return Ends(shipped, tmp_path, prefix)
 
 
 def ran(name, *words, given=b""):

@@ -14,7 +14,8 @@ import sqlite3
 import subprocess
 
 import pytest
-from test_effects import HERE, Ends, _files_of_their_owner_alone, await_so, both_programs, end  # noqa: F401
+from builds import HERE
+from test_effects import Ends, await_so, end
 
 # Of each session the key, that of the way back, how many texts were put in, how many of them waited, how many frames were kept, how
 # many texts had taken effect, when the dumps were made, and whether it is closed.
@@ -78,15 +79,10 @@ class Old(Ends):
                 for name, effects in self.effects().items()}
 
 
-@pytest.fixture(scope="module")
-def programs(shared, prefix):
-    return both_programs(shared, prefix, "programs_after_old_ones")
-
-
 @pytest.mark.parametrize("version", sorted(os.listdir(f"{HERE}/old")))
-def test_each_text_takes_effect_once(programs, tmp_path, version, monkeypatch):
+def test_each_text_takes_effect_once(shipped, tmp_path, version, monkeypatch):
     monkeypatch.setenv("KRB5_CONFIG", f"{tmp_path}/krb5.conf")
-    ends = Old(programs, tmp_path, version)
+    ends = Old(shipped, tmp_path, version)
     assert ends.states() == {name: it[3:6] for name, it in SESSIONS.items()}
     started = ends.both_started()
     await_so(lambda: not ends.run("outbox", LEFT)[0][0],

@@ -7,8 +7,7 @@ import subprocess
 import time
 
 import pytest
-from cases import wakes_in
-from test_effects import both_programs, write_private
+from cases import Place, opened, wakes_in
 
 SESSIONS, SHARDS = 10_000, 8
 WINDOW = 5                      # seconds in which wakes are counted, of all threads of a program
@@ -22,20 +21,15 @@ UNDONE = "SELECT (SELECT count(*) FROM text) + (SELECT count(*) FROM sealed)"
 SHARED = ("--sessions", "sessions", "--carrier", "sqlite:carrier.db")
 
 
-@pytest.fixture(scope="module")
-def programs(shared, prefix):
-    return both_programs(shared, prefix, "programs_of_put_get")      # which the gate builds for both
-
-
 @pytest.fixture
-def running(programs, tmp_path):
+def running(shipped, tmp_path):
     """Both programs, in whose folder the databases are."""
-    write_private(tmp_path / "sessions", "".join(f"s{i} {i % SHARDS} 18 priv {i:064x} 1 10.0.0.1 10.0.0.2\n"
-                                                 for i in range(SESSIONS)))
+    Place.write(tmp_path / "sessions", (f"s{i} {i % SHARDS} 18 priv {i:064x} 1 10.0.0.1 10.0.0.2\n"
+                                        for i in range(SESSIONS)))
     with contextlib.ExitStack() as stack:
         def start(name, *words):
             log = stack.enter_context(open(tmp_path / f"{name}.log", "wb"))
-            process = subprocess.Popen([f"{programs}/{name}", *SHARED, *words], cwd=tmp_path,
+            process = subprocess.Popen([f"{shipped}/{name}", *SHARED, *words], cwd=tmp_path,
                                        stderr=log)
             stack.callback(process.wait)
             stack.callback(process.terminate)
@@ -64,7 +58,7 @@ def ask(path, query):
 
 
 def put(folder, names):
-    with contextlib.closing(sqlite3.connect(folder / "outbox.db", timeout=30)) as file, file:
+    with opened(folder / "outbox.db") as file:
         file.executemany("INSERT INTO text (session, body) VALUES (?, 'x')",
                          ((name,) for name in names))
 

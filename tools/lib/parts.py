@@ -94,6 +94,7 @@ class Part:
     # The crates on which what it runs is built: once `rt ci` has proved these, it may begin beside it.
     # None: it begins after it.
     over: typing.Optional[tuple] = None
+    waits: bool = False     # it mostly waits: of those that --all adds two such run beside each other, last
 
     def name(self):
         return self.command.replace(" ", "_").replace("/", "_")
@@ -152,8 +153,10 @@ PARTS = [
     Part("tests/freed_memory --relays", 10, ("rt", COMPILER, CRYPTOGRAPHY)),
     Part("tests/freed_memory --python", 10, (COMPILER, CRYPTOGRAPHY), LIBRARY.command, over=()),
     Part("tests/repeated_frames", 5, (PROGRAM, CRYPTOGRAPHY)),
-    Part("carrier/test --library", 30, ("rt", COMPILER, MAKE, SQLITE), LIBRARY.command, over=()),
-    Part("carrier/test --files", 10, (PROGRAM, "rt", COMPILER, MAKE, SQLITE), LIBRARY.command),
+    Part("pytest carrier/tests/test_mutants.py", 30, (PYTEST, "rt", COMPILER, MAKE, SQLITE), LIBRARY.command, over=()),
+    Part("pytest carrier/tests/test_units.py carrier/tests/test_errors.py carrier/tests/test_answers.py carrier/tests/test_evidence.py"
+         " carrier/tests/test_shown.py carrier/tests/test_demo.py", 20, (PYTEST, "rt", COMPILER, MAKE, SQLITE), LIBRARY.command, over=()),
+    Part("pytest carrier/tests/test_chaos.py", 10, (PROGRAM, PYTEST, "rt", COMPILER, MAKE, SQLITE), LIBRARY.command),
     Part("tests/fuzz 2000", 5, (PROGRAM, CRYPTOGRAPHY)),
     Part("conformance/test", 5, (PROGRAM, COMPILER, CRYPTOGRAPHY), LIBRARY.command),
     Part("pytest tests/test_bench.py", 30, ("rt", PYTEST)),
@@ -161,6 +164,15 @@ PARTS = [
     Part("tests/secret_places --library", 20, ("rt", COMPILER, MAKE, "valgrind"), LIBRARY.command,
          over=()),
 ]
+
+
+def of_carrier(words, minutes, *modules):
+    """Tests of the carrier over servers, which mostly wait for them."""
+    command = " ".join(["pytest --all", *filter(None, [words]), *(f"carrier/tests/test_{it}.py" for it in modules)])
+    needs = (PROGRAM,) * ("chaos" in modules) + ("clang",) * ("clang" in words)
+    return Part(command, minutes, (*needs, PYTEST, "rt", COMPILER, MAKE, SQLITE, SERVERS, MIT, REALM), waits=True)
+
+
 MORE = [
     Part("tools/check_documents --typed", 10, (PROGRAM, "rt", COMPILER, MAKE, PKG_CONFIG, SQLITE)),
     Part("tools/mutants --try", 170, ("rt",)),
@@ -180,8 +192,10 @@ MORE = [
     Part("kerberos/test", 75, ("rt", COMPILER, MIT, HEIMDAL, REALM, DUMPCAP)),
     Part("pytest carrier/tests/test_effects_postgresql.py", 20, (PYTEST, "rt", COMPILER, MAKE, SQLITE, SERVERS, PSYCOPG)),
     Part("pytest carrier/tests/test_prometheus.py", 10, (PYTEST, "rt", COMPILER, MAKE, SQLITE, SERVERS, PROMETHEUS)),
-    Part("carrier/test --all", 60, (PROGRAM, "rt", COMPILER, "clang", MAKE, SQLITE, SERVERS,
-                                       MIT, REALM)),
+    *(of_carrier(f"--sanitized {it}", 60, "units", "errors", "tickets", "chaos") for it in ("gcc", "clang")),
+    of_carrier("", 60, "units", "errors", "servers", "demo", "mutants", "chaos", "endurance"),
+    *(of_carrier(f"--share {it}/2", 90, "repro", "receipts", "safety", "shown", "tickets", "machines", "two_faults")
+      for it in (1, 2)),
 ]
 # Those of --quick: the first builds the program that some of the others run, without its proofs.
 BUILD_UNPROVED = Part("tools/krbrelay --unproved", 10, ("rt",))
@@ -215,7 +229,7 @@ VERBS = {
     "run": ("krbrelay", "relay", "show", "picture", "check_job"),
     "make": ("install", "c/library", "c/dist", "debian", "release", "reference", "figure"),
     "prove": ("test", "proving.py", "mutants"),
-    "bench": ("bench", "bench_aes", "bench_lane", "tests/job_costs"),
+    "bench": ("bench", "bench_aes", "bench_lane", "carrier/bench", "tests/job_costs"),
 }
 OTHERS = "check"
 

@@ -63,10 +63,10 @@ def supported_v3(copy: Copy) -> Told:
     return copy.run(["./supported_v3"]) if made else (made, said)
 
 
-def counted(told: Told) -> Told:
+def counted(told: Told, count: str = r"\d+ passed, \d+ failed") -> Told:
     """What a tool that counts found. One that ended before its count, as on a busy machine, says nothing of a fault."""
     passed, said = told
-    if not passed and not re.search(r"(?m)^\d+ passed, \d+ failed", said):
+    if not passed and not re.search(f"(?m)^{count}", said):
         raise NotCompiled(f"it ended before its count: {said[-1000:]}")
     return told
 
@@ -136,9 +136,12 @@ def carrier(copy: Copy, what: str) -> Told:
     return copy.run([made, f"sqlite:{folder}/{what}.db" if what in ("store_test", "carrier_test") else folder])
 
 
-def carrier_case(copy: Copy, form: str, *cases: str) -> Told:
-    """Cases of a form of carrier/test, over the installed library."""
-    return counted(copy.run(["carrier/test", f"--{form}", copy.installed, *cases], cwd=copy.top))
+def carrier_case(copy: Copy, table: str, *cases: str) -> Told:
+    """Cases of a table of carrier/tests, over the installed library. Where its programs aren't built, pytest counts an
+    error alone."""
+    words = ["pytest", "-q", "-x", "--tb=short", "--all", f"--prefix={copy.installed}"]
+    told = copy.run([*words, *(f"carrier/tests/test_{table}.py::test_case[{it}]" for it in cases)], cwd=copy.top)
+    return counted(told, r"\d+ (?:passed|failed)\b.* in [\d.]+s")
 
 
 def carrier_pytest(copy: Copy, module: str, *words: str) -> Told:

@@ -14,10 +14,10 @@ import threading
 import cases
 import chaos
 import engines
-import errors
 import evidence
 import jetstream
 import loglines
+import pytest
 import systemd_units
 
 UNITS = os.path.join(os.path.dirname(os.path.abspath(__file__)), "../systemd")
@@ -67,7 +67,7 @@ class Endurance:
         lines = {name: f"{name} {self.shard_of(name)} 18 priv {int(name[1:]) + 1:064x} {FIRST}"
                        " 10.0.0.1 10.0.0.2\n" for name in self.names}
         for path, mine in self.files():
-            errors.Ends.write(path, [lines[it] for it in mine])
+            cases.Place.write(path, [lines[it] for it in mine])
 
     def files(self):
         """Each file of sessions, and their names."""
@@ -105,7 +105,7 @@ class Endurance:
         """Puts texts into the outboxes of their sessions."""
         for sender in range(SENDERS):
             mine = [(name, text) for name, text in rows if self.sender_of(name) == sender]
-            with errors.opened(f"{self.folder}/outbox{sender}.db") as file:
+            with cases.opened(f"{self.folder}/outbox{sender}.db") as file:
                 file.executemany("INSERT INTO text (session, body) VALUES (?, ?)", mine)
             for name, text in mine:
                 if text is not None:
@@ -192,7 +192,7 @@ class Endurance:
             with open(path, encoding="ascii") as file:
                 lines = file.readlines()
             self.dice.shuffle(lines)
-            errors.Ends.write(path + ".new", lines)
+            cases.Place.write(path + ".new", lines)
             os.rename(path + ".new", path)
 
     # ---- metrics
@@ -292,7 +292,6 @@ class Endurance:
         self.counts["largest lag"] = int(max(it.lag for it in self.samples))
 
     def run(self):
-        """Whether all went right."""
         try:
             self.start()
             until = time.monotonic() + self.seconds
@@ -315,7 +314,15 @@ class Endurance:
                     unit.stop()
             self.database.stop()
             self.nats.stop()
-        return not self.faults
 
     def told(self):
         return ", ".join(f"{word} {count}" for word, count in sorted(self.counts.items()))
+
+
+@pytest.mark.slow
+def test_endurance(programs, folder, pytestconfig):
+    """For an hour with --seconds 3600."""
+    trial = Endurance(folder, programs, pytestconfig.getoption("--seconds", 30))
+    trial.run()
+    print(trial.told())
+    assert trial.faults[:20] == []

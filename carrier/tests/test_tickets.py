@@ -1,5 +1,6 @@
-"""Sessions that begin by tickets of a real KDC: openings that aren't right, each of which has to be
-refused by its name, and cases."""
+"""Sessions that begin by tickets of a real KDC: openings that aren't right, each of which has to be refused by its name,
+and cases."""
+import dataclasses
 import glob
 import os
 import random
@@ -10,14 +11,12 @@ import time
 
 import cases
 import engines
-import errors
 import loglines
+import pytest
 import realms
-import receipts
-from cases import TOM, numbers
-from errors import opened
+import test_receipts
+from cases import TOM, numbers, opened
 
-CASES, case = cases.table(lines=())
 DAY = 86400             # seconds
 STREAMS = 5000
 GOOD = 40               # texts of the session that nothing may hold up
@@ -27,12 +26,20 @@ ETYPES = (17, 18)
 CLIENT = f"{realms.SENDER}@{realms.REALM}"
 
 
-class Place(cases.Place):
-    """The files of one case, with a realm."""
+@dataclasses.dataclass
+class Case(cases.Case):
+    etype: int = dataclasses.field(default=18, kw_only=True)    # of the keys
 
-    def __init__(self, programs, folder, case, realm, etype=18):
+
+CASES, case = cases.table(Case, lines=())
+
+
+class Place(cases.Place):
+    """The files of one case, with a realm; and another one, and what openings that aren't right begin with."""
+
+    def __init__(self, programs, folder, case, realm, other_realm=None, templates=None):
         super().__init__(programs, folder, case)
-        self.realm, self.etype = realm, etype
+        self.realm, self.etype, self.other_realm, self.templates = realm, case.etype, other_realm, templates
         self.keytab, self.client = realm.path("sender.keytab"), realms.SENDER
         self.receiver_keytab, self.allowed = realm.path("receiver.keytab"), f"{folder}/allowed"
         self.allow(realms.SENDER)
@@ -89,7 +96,7 @@ class Place(cases.Place):
                  stream, shard, *more]
         env = (realm or self.realm).environment() | {"KRB5_CLIENT_KTNAME": keytab,
                                                      "ASAN_OPTIONS": "detect_leaks=0"}      # it ends at once
-        done = subprocess.run(words, check=True, timeout=errors.LIMIT, text=True, stdout=subprocess.PIPE, env=env)
+        done = subprocess.run(words, check=True, timeout=cases.LIMIT, text=True, stdout=subprocess.PIPE, env=env)
         name, digits = done.stdout.split()
         return name, bytes.fromhex(digits)
 
@@ -106,7 +113,7 @@ class Place(cases.Place):
     def keys(self, *names):
         """The keys of sessions of the outbox."""
         done = subprocess.run([f"{self.programs}/keys", self.outbox, self.keytab, self.client, *names],
-                              check=True, timeout=errors.LIMIT, text=True, env=self.env, stdout=subprocess.PIPE)
+                              check=True, timeout=cases.LIMIT, text=True, env=self.env, stdout=subprocess.PIPE)
         return [bytes.fromhex(it) for it in done.stdout.split()]
 
 
@@ -220,45 +227,44 @@ HOSTILE = {
 }
 
 
-def good_place(programs, folder, what, realm, other_realm, etype):
-    place = Place(programs, folder, cases.Case(None, what, {"good": GOOD}, 15, ()), realm, etype)
-    place.other_realm = other_realm
-    return place
+def refused(place, make, answer):
+    """One opening that isn't right: it is refused by its name, and holds up nothing."""
+    shutil.copy(place.templates[place.etype], place.path("carrier"))
+    name, frame = make(place)
+    late = place.case.done.startswith("the stream's")
+    place.insert([(name, frame)] * 2, FIRST + 1000 if late else 1)
+    receiver = place.receive()
+    is_told = answer is None or place.wait(lambda: place.has_refused(receiver, answer), 2)
+    assert len(place.opened()) == 1 and name not in place.opened(), f"opened: {place.opened()}"
+    assert is_told, f"not refused as {answer}: {place.log(receiver)[:600]}"
+    assert receiver.poll() is None, "the receiver has ended"
+    place.end(receiver)
+    assert receiver.returncode == 0, f"status {receiver.returncode}"
 
 
-def prepared(programs, folder, realm, other, etype):
-    """What all openings that aren't right begin with: a carrier in which a session of 40 texts stands, from an offset
-    above 100."""
-    place = good_place(programs, folder, "", realm, other, etype)
-    place.put(cases.texts("good", 0, GOOD))
-    place.drain()
-    place.change("carrier", "UPDATE carried SET offset = offset + ?", [(FIRST,)])
-    place.stop()
-    if place.faults:
-        raise RuntimeError(place.faults)
-    return place
+NOT_RIGHT = [Case(refused, what, {"good": GOOD}, 15, (), etype=etype, given=given, called=f"{what}, type {etype}")
+             for etype in ETYPES for what, given in HOSTILE.items()]
 
 
-def refuse(programs, folder, realm, template, what, etype):
-    """One opening that isn't right: whether it is refused by its name, and holds up nothing."""
-    make, answer = HOSTILE[what]
-    place = good_place(programs, folder, what, realm, template.other_realm, etype)
-    try:
-        shutil.copy(template.path("carrier"), place.path("carrier"))
-        name, frame = make(place)
-        late = what.startswith("the stream's")
-        place.insert([(name, frame)] * 2, FIRST + 1000 if late else 1)
-        receiver = place.receive()
-        place.require(answer is None or place.wait(lambda: place.has_refused(receiver, answer), 2),
-                      f"not refused as {answer}: {place.log(receiver)[:600]}")
-        place.require(len(place.opened()) == 1 and name not in place.opened(), f"opened: {place.opened()}")
-        place.require(receiver.poll() is None, "the receiver has ended")
-        place.end(receiver)
-        place.require(receiver.returncode == 0, f"status {receiver.returncode}")
-    finally:
-        place.stop()
-    place.check_logs()
-    return not place.faults, f"tickets, hostile, type {etype}: {what}: {answer}", place.faults
+@pytest.fixture(scope="module")
+def templates(programs, realm):
+    """What all openings that aren't right begin with, for each type: a carrier in which a session of 40 texts stands,
+    from an offset above 100."""
+    with engines.new_folder() as folder:
+        for etype in ETYPES:
+            case = Case(None, "", lines=(), etype=etype)
+            with Place(programs, f"{folder}/{etype}", case, realm) as place:
+                place.put(cases.texts("good", 0, GOOD))
+                place.drain()
+                place.change("carrier", "UPDATE carried SET offset = offset + ?", [(FIRST,)])
+        yield {etype: f"{folder}/{etype}/carrier.db" for etype in ETYPES}
+
+
+@pytest.fixture
+def place(request, programs, folder, realm, other_realm, templates):
+    case = request.param
+    with Place(programs, f"{folder}/case", case, realm, other_realm, templates) as made:
+        yield made
 
 
 # ---- cases
@@ -270,7 +276,7 @@ def streams_of(place, count=None, first=0, streams=None):
 
 
 def require_unstopped(place):
-    place.require(place.count("outbox", "stopped") == 0, "something is stopped still")
+    assert place.count("outbox", "stopped") == 0, "something is stopped still"
 
 
 def sessions_of_orders(place):
@@ -290,12 +296,12 @@ def both(place):
     place.relay()
     _, lines = place.status("--outbox", place.outbox, "--store", place.store)
     shown = "\n".join(map(" ".join, lines.values()))
-    place.require(f"open, of orders by {CLIENT}" in shown, shown)
+    assert f"open, of orders by {CLIENT}" in shown, shown
     rows = place.ask("store", "SELECT DISTINCT client, stream FROM effect")
-    place.require(sorted(rows) == sorted((CLIENT, it) for it in place.case.wanted), f"by whom: {rows}")
+    assert sorted(rows) == sorted((CLIENT, it) for it in place.case.wanted), f"by whom: {rows}"
     keys = place.ask("store", "SELECT number, part, count(*) FROM effect GROUP BY stream, session,"
                               " number, part HAVING count(*) > 1")
-    place.require(not keys, f"numbers that came twice: {keys[:3]}")
+    assert not keys, f"numbers that came twice: {keys[:3]}"
 
 
 @case("streams beside a session of a file", {"orders": 50, "tom": 50}, 15, (TOM,))
@@ -354,7 +360,7 @@ def trusted_realm(place):
     receiver = place.start("receiver")
     place.expect_refused(receiver, "OPENING_CLIENT")
     place.await_delivered()
-    place.require(opening[0] not in place.opened(), f"opened: {place.opened()}")
+    assert opening[0] not in place.opened(), f"opened: {place.opened()}"
 
 
 def use_skew(place, seconds):
@@ -382,7 +388,7 @@ def ticket_ended(place):
     receiver = place.start("receiver", clock=2 * DAY, skew=str(3 * DAY))
     place.expect_refused(receiver, "OPENING_EXPIRED")
     place.await_delivered()
-    place.require(not place.opened(), f"opened: {place.opened()}")
+    assert not place.opened(), f"opened: {place.opened()}"
 
 
 @case("two clients have a stream of one name", {}, 20)
@@ -413,7 +419,7 @@ def other_outbox(place):
     place.put([("orders", b"again")], other)
     place.run("sender", "--drain", outbox=other)
     place.expect_refused(receiver, "OPENING_FORKED")
-    place.require(place.delivered()["orders"] == [f"orders {it}" for it in range(20)], "it counts")
+    assert place.delivered()["orders"] == [f"orders {it}" for it in range(20)], "it counts"
 
 
 @case("two receivers of one shard, one killed", {"orders": 400}, 20)
@@ -437,7 +443,7 @@ def shared(place):
     first.kill()
     place.pass_on(streams_of(place, 100, 50))
     shards = place.ask("store", "SELECT DISTINCT shard FROM opened")
-    place.require(len(shards) > 1, f"all in one shard: {shards}")
+    assert len(shards) > 1, f"all in one shard: {shards}"
 
 
 @case("10,000 texts of a stream over ten sessions, by SIGHUP", {"orders": 10000}, 60)
@@ -454,9 +460,9 @@ def many_sessions(place):
                          "SIGHUP isn't noted")
     place.await_delivered()
     closed = place.ask("store", "SELECT count(*) FROM session WHERE closed = 1")[0][0]
-    place.require((sessions_of_orders(place), closed) == (10, 9),
-                  f"{sessions_of_orders(place)} sessions, {closed} of them closed")
-    place.require(receiver.poll() is None, "the receiver has ended")
+    assert (sessions_of_orders(place), closed) == (10, 9), \
+        f"{sessions_of_orders(place)} sessions, {closed} of them closed"
+    assert receiver.poll() is None, "the receiver has ended"
 
 
 @case("5,000 streams, of a text each", {}, 40)
@@ -481,11 +487,11 @@ def before_its_turn(place):
         close = file.execute("SELECT max(offset) FROM carried WHERE session = ?", (first,)).fetchone()[0]
         # All of the first session after its opening comes last.
         file.execute("UPDATE carried SET offset = offset + 1000 WHERE session = ? AND offset > 1", (first,))
-    place.require(close == 12, f"the close stands at {close}")
+    assert close == 12, f"the close stands at {close}"
     receiver = place.start("receiver")
     place.start("sender", life="1")
     place.await_delivered()
-    place.require(place.has_logged(receiver, "frame_early", before=first), "it isn't said")
+    assert place.has_logged(receiver, "frame_early", before=first), "it isn't said"
 
 
 # ---- openings and frames that somebody copies into another shard
@@ -504,7 +510,7 @@ def send_copied(place, other, count):
     place.send(streams_of(place, count, count - 20))
     place.copy_frames(1)
     place.expect(lambda: has_read(place, other, 1), "the copies aren't read", 8)
-    place.require(place.delivered() == before, f"in another shard: {place.delivered()}")
+    assert place.delivered() == before, f"in another shard: {place.delivered()}"
 
 
 @case("a young opening and its frames are copied into another shard", {"orders": 80}, 25)
@@ -517,7 +523,7 @@ def copied_elsewhere(place, stores=0):
     place.put([])
     other = place.start("receiver", shards="1")
     send_copied(place, other, 20)
-    place.require(place.has_refused(other, ELSEWHERE) and not place.opened(), "the copy isn't refused")
+    assert place.has_refused(other, ELSEWHERE) and not place.opened(), "the copy isn't refused"
     receiver = place.start("receiver")
     place.expect_delivered({"orders": 20}, "it doesn't begin in its own", 5)
     place.end(receiver)
@@ -533,7 +539,7 @@ def copied_elsewhere(place, stores=0):
     place.await_no_frames()
     for table in ("opened", "session"):
         shards = place.ask_stores(f"SELECT DISTINCT shard FROM {table}")
-        place.require(shards == [(0,)], f"{table}: sessions of shards {shards}")
+        assert shards == [(0,)], f"{table}: sessions of shards {shards}"
     place.await_delivered()
 
 
@@ -542,7 +548,7 @@ def older_openings(place):
     """They don't say their shard: each is taken where it comes first, and no more in another shard."""
     first, second = place.make(stream="first", shard="-"), place.make(stream="second", shard="-")
     after = place.make("good", first[0], HISTORY.decode(), stream="first", shard="-")
-    place.require(b"krbrelay session 1 " in first[1] and b"krbrelay session 2 " in after[1], "other forms")
+    assert b"krbrelay session 1 " in first[1] and b"krbrelay session 2 " in after[1], "other forms"
     place.put([])
     place.insert([first, after], 1)
     place.insert([second], 3, shard=1)
@@ -556,7 +562,7 @@ def older_openings(place):
     place.insert([second], 6)
     place.expect(lambda: len(loglines.find(place.log(receiver), "opening_refused", answer=ELSEWHERE)) == 3,
                  "copies are taken")
-    place.require(found() == wanted, "they are moved")
+    assert found() == wanted, "they are moved"
 
 
 @case("a session of the version before has begun in another shard", {"orders": 20}, 20)
@@ -573,7 +579,7 @@ def begun_elsewhere(place):
     place.expect_logged(receiver, "session_unknown", "it is known")
     place.await_delivered()
     rows = [place.ask("store", f"SELECT shard FROM {table}") for table in ("opened", "session")]
-    place.require(rows == [[(0,)], [(0,)]], f"shards: {rows}")
+    assert rows == [[(0,)], [(0,)]], f"shards: {rows}"
 
 
 # ---- keys that can't be read for a while, and outboxes that are restored
@@ -622,12 +628,12 @@ def keytab_away(place):
     take_away(place.keytab)
     place.put([("bills", b"bills 0"), ("orders", b"orders 1"), ("tom", b"tom 1"), ("bills", b"bills 1")])
     place.expect_delivered({"orders": 2, "tom": 2}, "others wait for the keytab", 5)
-    place.require(not place.delivered()["bills"] and place.ask("outbox", "SELECT session FROM stopped") == [("bills",)],
-                  "the stream's first text isn't told to wait")
+    assert not place.delivered()["bills"] and place.ask("outbox", "SELECT session FROM stopped") == [("bills",)], \
+        "the stream's first text isn't told to wait"
     bring_back(place.keytab)
     place.pass_on([("orders", b"orders 2")])
     require_unstopped(place)
-    place.require(sessions_of_orders(place) == 2, f"sessions of orders: {sessions_of_orders(place)}")
+    assert sessions_of_orders(place) == 2, f"sessions of orders: {sessions_of_orders(place)}"
 
 
 @case("the sender's keytab lacks a key for a while", {"orders": 3}, 30)
@@ -701,7 +707,7 @@ def restored_streams(place):
     time.sleep(2)
     for name, texts in place.delivered().items():
         sent = [f"{name} {it}" for it in range(before[name])]
-        place.require(texts == sent[:len(texts)] and len(texts) >= 40, f"{name}: {texts[-5:]} of {before}")
+        assert texts == sent[:len(texts)] and len(texts) >= 40, f"{name}: {texts[-5:]} of {before}"
 
 
 @case("--life 1, and both ends are killed", {"orders": 400}, 25)
@@ -714,7 +720,7 @@ def short_life(place):
         place.kill(*running)
     place.start("sender", life="1")
     place.receive()
-    place.require(sessions_of_orders(place) == 4, f"{sessions_of_orders(place)} sessions")
+    assert sessions_of_orders(place) == 4, f"{sessions_of_orders(place)} sessions"
 
 
 @case("all clocks are set on by two days", {"orders": 20, "bills": 20}, 40)
@@ -758,12 +764,12 @@ def sessions_end(place):
     place.await_delivered()
     place.await_no_frames()
     for name, process in zip(("sender", "receiver"), running):
-        place.require(place.has_logged(process, "sessions_forgotten"), f"{name}: nothing is forgotten")
+        assert place.has_logged(process, "sessions_forgotten"), f"{name}: nothing is forgotten"
     sessions = place.count("store", "opened")
-    place.require(sessions >= 20 * len(streams), f"{sessions} sessions")
+    assert sessions >= 20 * len(streams), f"{sessions} sessions"
     for of, table in (("outbox", "opened"), ("outbox", "session"), ("carrier", "receipt")):
         rows = place.count(of, table)
-        place.require(rows <= 8 * len(streams), f"{of}: {rows} rows of {table} are left of {sessions} sessions")
+        assert rows <= 8 * len(streams), f"{of}: {rows} rows of {table} are left of {sessions} sessions"
 
 
 # ---- keys at rest
@@ -802,8 +808,8 @@ def at_rest(place):
         place.realm.kadmin(f"ktremove -q -k {keytab} {name} old")
     place.start_both(**given)
     place.pass_on(streams_of(place, 100, 50))
-    place.require(len(place.opened()) == len(place.case.wanted), "a session was begun anew")
-    place.require(not find_keys(place, keys), "keys in the clear at last")
+    assert len(place.opened()) == len(place.case.wanted), "a session was begun anew"
+    assert not find_keys(place, keys), "keys in the clear at last"
 
 
 def require_wrapped(place, given):
@@ -812,13 +818,13 @@ def require_wrapped(place, given):
     running = place.start_both(**given)
     place.expect_delivered(dict.fromkeys(place.case.wanted, 50))
     logs = [it for it in os.listdir(place.folder) if it.endswith("-wal")]
-    place.require({"outbox.db-wal", "store.db-wal"} <= {*logs}, f"no write-ahead log: {logs}")
+    assert {"outbox.db-wal", "store.db-wal"} <= {*logs}, f"no write-ahead log: {logs}"
     keys = place.keys(*place.opened())
-    place.require(not find_keys(place, keys), "keys in the clear while both ends run")
-    place.require(len(set(keys)) == len(place.case.wanted)
-                  and all(len(it) == (16 if place.etype == 17 else 32) for it in keys), f"{len(keys)} keys")
+    assert not find_keys(place, keys), "keys in the clear while both ends run"
+    assert (len(set(keys)) == len(place.case.wanted)
+            and all(len(it) == (16 if place.etype == 17 else 32) for it in keys)), f"{len(keys)} keys"
     place.kill(*running)      # so that the write-ahead logs stay
-    place.require(not find_keys(place, keys), f"keys in the clear: {find_keys(place, keys)}")
+    assert not find_keys(place, keys), f"keys in the clear: {find_keys(place, keys)}"
     return keys
 
 
@@ -840,10 +846,10 @@ def words(place):
     for name, without in (("sender", "client"), ("sender", "service"), ("receiver", "allow")):
         command = place.command(name)
         at = command.index(f"--{without}")
-        done = subprocess.run(command[:at] + command[at + 2:], check=False, timeout=errors.LIMIT,
+        done = subprocess.run(command[:at] + command[at + 2:], check=False, timeout=cases.LIMIT,
                               stdout=subprocess.PIPE, stderr=subprocess.STDOUT, text=True)
-        place.require(done.returncode == 2 and "name all" in done.stdout,
-                      f"{name} without --{without}: {done.returncode} {done.stdout[:200]}")
+        assert done.returncode == 2 and "name all" in done.stdout, \
+            f"{name} without --{without}: {done.returncode} {done.stdout[:200]}"
 
 
 @case("openings are too old when they are read, and made anew", {"orders": 40}, 25)
@@ -856,7 +862,7 @@ def opening_anew(place):
     place.expect_refused(receiver, "OPENING_SKEW")
     place.start("sender")
     place.pass_on(streams_of(place, 40, 20))
-    place.require(len(place.opened()) == 1, f"{len(place.opened())} sessions")
+    assert len(place.opened()) == 1, f"{len(place.opened())} sessions"
 
 
 # ---- a carrier that loses all, and servers that are away
@@ -864,7 +870,7 @@ def opening_anew(place):
 @case("the carrier's file is deleted, three times", {"orders": 600, "bills": 600}, 30)
 def carrier_lost(place):
     """Both ends are killed then, amid texts."""
-    receipts.lose_carrier(place, lambda turn: streams_of(place, 200 * (turn + 1), 200 * turn), 0.3)
+    test_receipts.lose_carrier(place, lambda turn: streams_of(place, 200 * (turn + 1), 200 * turn), 0.3)
     place.relay()
     place.await_no_frames()
 
@@ -924,8 +930,9 @@ class Nodes:
         count = sum(self.place.case.wanted.values())
         self.place.wait(lambda: sum(map(len, self.delivered().values())) >= count, 90)
         had = self.delivered()
-        self.place.require(had == wanted, "not once and in order: "
-                           f"{ {name: (len(texts), len(set(texts))) for name, texts in had.items()} }")
+        assert had == wanted, (
+            "not once and in order: "
+            f"{ {name: (len(texts), len(set(texts))) for name, texts in had.items()} }")
 
     def stop(self):
         self.place.kill(*self.running.values())
@@ -943,9 +950,9 @@ def nodes(place):
             it.disturb()
         it.require_delivered()
         count = int(it.postgres.ask("SELECT count(*) FROM opened")[0][0])
-        place.require(count > len(place.case.wanted), f"{count} sessions")
+        assert count > len(place.case.wanted), f"{count} sessions"
         keys = it.postgres.ask("SELECT key FROM opened")
-        place.require(all(len(key) > 100 for key, in keys), "a key that isn't wrapped")
+        assert all(len(key) > 100 for key, in keys), "a key that isn't wrapped"
         place.await_no_frames(20)
     finally:
         it.stop()
@@ -972,7 +979,7 @@ def no_kdc(place):
         place.start("receiver")
         place.expect_delivered({"tom": 1}, "the file's session is held up", 5)
         place.expect_logged(sender, "ticket_missing", "nothing says that there is no ticket")
-        place.require(not place.delivered()["orders"], "a stream without a ticket")
+        assert not place.delivered()["orders"], "a stream without a ticket"
         expect_held(place, port, 1)
         place.expect(lambda: len(held()) == 1, lambda: f"status: {held()}", 20)
     finally:
@@ -981,6 +988,6 @@ def no_kdc(place):
     expect_held(place, port, 0)
 
 
-def run(programs, folder, realm, case, etype):
-    """One case of sessions that begin by tickets."""
-    return cases.judged(Place(programs, folder, case, realm, etype), f"tickets {case.name()}, type {etype}")
+for at, it in enumerate(CASES):
+    it.etype = ETYPES[at % 2]
+test_case = cases.tested(NOT_RIGHT + CASES)

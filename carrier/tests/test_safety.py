@@ -1,12 +1,12 @@
 """No text is lost or overtaken, whatever is restored, copied, or unreadable for a moment: cases as those of
-repro.py, each a fault that a review found."""
+test_repro.py, each a fault that a review found."""
 import signal
 import time
 
 import cases
 import engines
 import jetstream
-import repro
+import test_repro
 from cases import ANN, WITH_RECEIPTS, close, get, numbers, texts
 
 CASES, case = cases.table(lines=(ANN,))
@@ -38,10 +38,10 @@ def drain(place, rows=(), receiver=True):
 
 def require_unlost(place, status, reason):
     """The session is stopped with this reason, and its new texts wait."""
-    place.require(status == 4, f"sender --drain: status {status}")
-    place.require_stopped("ann", reason)
     waiting = place.count("outbox", "text")
-    place.require(waiting == 100, f"{waiting} texts wait")
+    assert waiting == 100, f"{waiting} texts wait"
+    assert status == 4, f"sender --drain: status {status}"
+    place.require_stopped("ann", reason)
     place.await_delivered()
 
 
@@ -104,7 +104,7 @@ def restored_unread(place, sql):
     place.expect(lambda: place.count("outbox", "stopped") == 1, "it isn't stopped", 8)
     place.require_stopped("ann", "took effect")
     place.end(sender)
-    place.require(place.kept() == 4, f"of four texts and the close it keeps {place.kept()}")
+    assert place.kept() == 4, f"of four texts and the close it keeps {place.kept()}"
 
 
 def seal_only(place, count, outbox="outbox"):
@@ -156,7 +156,7 @@ def restored_and_all_purged(place):
     place.expect(lambda: place.count("outbox", "stopped") > 0, "it isn't stopped", 15)
     place.require_stopped("ann", "not all frames below number")
     place.end(*running)
-    place.require(place.kept() == 100, f"of 100 texts it keeps {place.kept()}")
+    assert place.kept() == 100, f"of 100 texts it keeps {place.kept()}"
 
 
 # ---- all of it is restored, from copies that were made in their order
@@ -185,7 +185,7 @@ def copied_in_order(place):
     place.start_both()
     place.await_delivered({"ann": 20})
     place.pass_on(texts("ann", 20, 30))
-    place.require(place.count("outbox", "stopped") == 0, "the session is stopped")
+    assert place.count("outbox", "stopped") == 0, "the session is stopped"
 
 
 @case("they are restored; frames left between the copies", {"ann": 20}, 20, called="copied_amid_texts", given=(OLDER,))
@@ -224,11 +224,11 @@ def copied_with_receipts(place):
     copied_and_cut_off(place)
     sender = place.start("sender", outbox=place.path("copy"))
     place.wait(lambda: place.count("copy", "stopped"), 10)
-    place.require_stopped("ann", "are of this outbox", "copy")
     time.sleep(2)
     place.end(sender)
     kept = place.count("copy", "frame"), place.count("copy", "sealed")
-    place.require(kept == (5, 5), f"the copy keeps {kept} frames and texts")
+    assert kept == (5, 5), f"the copy keeps {kept} frames and texts"
+    place.require_stopped("ann", "are of this outbox", "copy")
     place.await_delivered()
 
 
@@ -239,7 +239,7 @@ def copied_and_sealed(place):
     place.put(new_texts("ann", 3), outbox=place.path("copy"))
     place.drain(status=4, outbox=place.path("copy"), seconds=8)
     place.require_stopped("ann", "are of this outbox", "copy")
-    place.require(place.count("copy", "text") == 3, "texts left that were put in later")
+    assert place.count("copy", "text") == 3, "texts left that were put in later"
     place.await_delivered()
 
 
@@ -262,10 +262,9 @@ def copied_and_both_run(place):
     effects = place.delivered()["ann"]
     for name, word in (("outbox", "one"), ("copy", "two")):
         took, kept = [it for it in effects if it.startswith(word)], place.kept(name)
-        place.require(took == [f"{word} {it}" for it in range(50) if f"{word} {it}" in took],
-                      f"{name}: out of order: {took}")
-        place.require(len(took) + kept >= 50, f"{name}: {len(took)} took effect, and it keeps {kept}")
-        place.require(len(took) == 50 or place.count(name, "stopped") == 1, f"{name} isn't stopped")
+        assert took == [f"{word} {it}" for it in range(50) if f"{word} {it}" in took], f"{name}: out of order: {took}"
+        assert len(took) + kept >= 50, f"{name}: {len(took)} took effect, and it keeps {kept}"
+        assert len(took) == 50 or place.count(name, "stopped") == 1, f"{name} isn't stopped"
 
 
 # ---- a receiver without memory
@@ -295,22 +294,22 @@ def line_gone(place):
     place.drain(status=4, seconds=8)
     place.require_stopped("ann", "no line among the sessions")
     code, lines = place.status("--outbox", place.outbox, "--standing")
-    place.require(code == 1 and lines["ann"][8:10] == ["stopped", "since"], f"status: {code}: {lines}")
+    assert code == 1 and lines["ann"][8:10] == ["stopped", "since"], f"status: {code}: {lines}"
     place.replace(place.sessions, [ANN])
     place.drain(seconds=8, what="it isn't sent with its line")
-    place.require(place.count("outbox", "stopped") == 0, "it is stopped though it has a line")
+    assert place.count("outbox", "stopped") == 0, "it is stopped though it has a line"
     place.receive()
 
 
 @case("the outbox's file is replaced below a sender", {"ann": 6}, 15)
 def outbox_replaced(place):
     """The sender ends, and the next one reads the new file."""
-    sender, _ = repro.start_both(place, 5)
+    sender, _ = test_repro.start_both(place, 5)
     place.backup()
     place.restore()
     place.put(texts("ann", 5, 6))
     place.expect(lambda: sender.poll() == 1, lambda: f"it ends with {sender.poll()}")
-    place.require("outbox_replaced" in place.log(sender), "it doesn't say why")
+    assert "outbox_replaced" in place.log(sender), "it doesn't say why"
     place.start("sender")
     place.await_delivered()
 
@@ -331,7 +330,7 @@ def stopped_names(place):
                  "two aren't stopped", 8)
     time.sleep(1.2)
     stopped = shown(port, "stopped_sessions")
-    place.require(stopped == 2, f"stopped_sessions is {stopped}")
+    assert stopped == 2, f"stopped_sessions is {stopped}"
 
 
 @case("500 frames wait for receipts", {"ann": 500}, 25, (WITH_RECEIPTS,))
@@ -343,7 +342,7 @@ def waiting_shown(place):
         place.start(program, **{"metrics": f"127.0.0.1:{port}"} if program == "sender" else {})
         place.expect(lambda: shown(port, name) == wanted, lambda: f"{name} is {shown(port, name)}", 8)
         _, lines = place.status("--outbox", place.outbox)
-        place.require(lines["ann"][:7] == ["ann", "0", "501", "501", *line], f"status: {lines['ann']}")
+        assert lines["ann"][:7] == ["ann", "0", "501", "501", *line], f"status: {lines['ann']}"
     place.await_delivered()
 
 
@@ -377,7 +376,7 @@ def drain_first_texts(place, count, seconds, before=0):
     place.put([row for it in range(count) for row in texts(f"s{it}", 0, 1)])
     place.began = time.monotonic()
     place.drain(seconds=seconds)
-    place.require(place.count("carrier", "carried") == before + count, "not all are carried")
+    assert place.count("carrier", "carried") == before + count, "not all are carried"
 
 
 @case("first texts of 2,048 sessions beside 65,536 frames", {}, 40, short_lines(FIRST_TEXTS))
@@ -415,7 +414,7 @@ def backlog_of_shards(place):
     place.put(of_all_shards(0, IN_EACH))
     place.began = time.monotonic()
     told = place.drain(seconds=25)
-    place.require(published(place) < 1.5 * SHARDS * IN_EACH, f"{published(place)} frames: {told[-300:]}")
+    assert published(place) < 1.5 * SHARDS * IN_EACH, f"{published(place)} frames: {told[-300:]}"
 
 
 def is_carried(place):
@@ -436,7 +435,7 @@ def node_stopped_with_backlogs(place):
     place.expect(lambda: place.count("outbox", "text") == 0 and is_carried(place),
                  "not all is carried 30 s after the node goes on", 30)
     place.end(sender)
-    place.require(published(place) < 3 * SHARDS * IN_EACH, f"{published(place)} frames")
+    assert published(place) < 3 * SHARDS * IN_EACH, f"{published(place)} frames"
 
 
 @case("the stream of receipts has one replica, whose node is away", {"ann": 181}, 90, (ANN, *many_lines()), "0,1")
@@ -453,11 +452,10 @@ def receipts_node_away(place):
     first = time_until_delivered(place, "ann", 61)
     took = [time_until_delivered(place, "ann", it) for it in range(62, 181)]
     place.expect_delivered(place.case.wanted, "another session stands", 5)
-    place.told = (f"; the nodes by themselves {server:.1f} s, a receiver that begins then {first:.3f} s, each text"
-                  f" after that {sorted(took)[len(took) // 2]:.3f} s (median), {max(took):.3f} s at most,"
-                  f" {before:.3f} s before")
+    print(f"the nodes by themselves {server:.1f} s, a receiver that begins then {first:.3f} s, each text after that"
+          f" {sorted(took)[len(took) // 2]:.3f} s (median), {max(took):.3f} s at most, {before:.3f} s before")
     late = [it for it in took if it > max(SOON, 2 * before)]    # a busy machine is late by itself
-    place.require(not late, f"late: {late}")
+    assert not late, f"late: {late}"
 
 
 def prepare_node_away(place):
@@ -487,7 +485,7 @@ def time_of_the_server(place, port):
                                                    "num_replicas": 1, "mem_storage": True}}
     taken = place.wait(lambda: jetstream.is_taken(port, 0, patience=0.3), 20)
     made = place.wait(lambda: jetstream.answers(port, "CONSUMER.CREATE.KRB_0", 0.3, **consumer), 20)
-    place.require(taken and made, "two nodes of three take no frame, or make no consumer")
+    assert taken and made, "two nodes of three take no frame, or make no consumer"
     return time.monotonic() - began
 
 
@@ -522,7 +520,7 @@ def credentials_refused(place):
     start_with(right.replace('"one"', '"two"'))
     place.expect(lambda: [it.poll() for it in running] == [1, 1],
                  lambda: f"they go on, or end with another status than 1: {[it.poll() for it in running]}", 20)
-    place.require(all("carrier_closed" in place.log(it) for it in running), "they don't say why")
+    assert all("carrier_closed" in place.log(it) for it in running), "they don't say why"
     start_with(right)
     place.put(texts("ann", 1, 2))
     engines.await_port(place.nats.ports[0])
@@ -539,13 +537,16 @@ def health_of_both(place):
     place.start("receiver", metrics=f"127.0.0.1:{ports[1]}")
     place.expect_delivered({"ann": 1})
     place.nats.kill(0)
-    repro.expect_health(place, ports, 503, "/healthz doesn't say that the broker is away, where nothing waits", 20)
+    test_repro.expect_health(place, ports, 503, "/healthz doesn't say that the broker is away, where nothing waits", 20)
     place.put(texts("ann", 1, 2))
     time.sleep(2)
-    place.require([get(it, "/healthz")[0] for it in ports] == [503, 503],
-                  "/healthz doesn't say that it is away, where a text waits")
+    assert [get(it, "/healthz")[0] for it in ports] == [503, 503], \
+        "/healthz doesn't say that it is away, where a text waits"
     silent = shown(ports[0], "silent_seconds")
-    place.require(silent and silent > 10, f"silent_seconds is {silent}")
+    assert silent and silent > 10, f"silent_seconds is {silent}"
     place.nats.start(0)
     place.await_delivered()
-    repro.expect_health(place, ports, 200, "/healthz doesn't say that it is there")
+    test_repro.expect_health(place, ports, 200, "/healthz doesn't say that it is there")
+
+
+test_case = cases.tested(CASES)

@@ -1,4 +1,4 @@
-"""Two faults at once, done to the machines of machines.py: cases as those of machine_cases.py, most of them
+"""Two faults at once, done to the machines of machines.py: cases as those of test_machines.py, most of them
 of sessions with receipts. What a carrier lost is published again there, so nothing may be lost for good.
 
 Where something is restored, copied or can't be sent, not all takes effect. Then what does is in order and
@@ -9,11 +9,11 @@ import signal
 import time
 
 import cases
-import errors
-import machine_cases
 import machines
-from machine_cases import Case, fill_for, lose_power, others, require_prefixes, start_again, stop_for
+import test_machines
 from machines import DATABASE, FIRST, NODES, RECEIVERS, SENDERS
+from test_machines import (  # noqa: F401
+    Case, fill_for, lose_power, others, place, require_prefixes, start_again, stop_for, template)
 
 HOUR, DAY, YEAR = 3600, 86400, 365 * 86400
 COPIED = 30             # texts of each session that a copied outbox gets
@@ -45,7 +45,7 @@ def ask_any(world, what, *more):
 
 def purge(world, *shards):
     for shard in shards:
-        world.require(ask_any(world, "purge", shard) is not None, f"shard {shard} isn't purged")
+        assert ask_any(world, "purge", shard) is not None, f"shard {shard} isn't purged"
 
 
 # ---- what has to hold where not all takes effect
@@ -199,7 +199,7 @@ def deleted_and_receiver_away(world):
     world.network.isolate("r0")
     world.stop("r1")
     for stream in (0, 1, "RECEIPTS"):
-        world.require(ask_any(world, "unmake", stream) is not None, f"stream {stream} isn't deleted")
+        assert ask_any(world, "unmake", stream) is not None, f"stream {stream} isn't deleted"
         time.sleep(1)
     time.sleep(3)
     world.start_receiver("r1")
@@ -252,7 +252,7 @@ def two_senders_one_outbox(world):
     world.copy_outbox("s0", path)
     world.start_sender("s1", outbox=path, sessions_of="s0")
     rows = [(name, f"copy {name} {it}".encode()) for it in range(COPIED) for name in world.names_of("s0")]
-    with errors.opened(path) as file:
+    with cases.opened(path) as file:
         file.executemany("INSERT INTO text (session, body) VALUES (?, ?)", rows)
     time.sleep(5)
     world.network.heal()
@@ -282,7 +282,7 @@ def leader_stopped_60_receiver_killed(world):
 
 
 @case("all nodes' disks and an outbox's are full for 9 s", gap=60, stays_down=STUCK,
-      made=R | machine_cases.FAST | {"disks": DISKS})
+      made=R | test_machines.FAST | {"disks": DISKS})
 def disks_and_outbox_full(world):
     fill_for(world, (*NODES, "s0"), 9)
     world.stop(*NODES)
@@ -298,7 +298,7 @@ def has_effects(world):
 def frames_repeated(world):
     cases.Place.wait(lambda: has_effects(world), machines.PATIENCE)
     for shard in range(world.options.shards):
-        world.require(ask_any(world, "repeat", shard, REPEATS) is not None, f"{shard} isn't repeated")
+        assert ask_any(world, "repeat", shard, REPEATS) is not None, f"{shard} isn't repeated"
 
 
 # ---- texts that are refused
@@ -309,14 +309,14 @@ def poison_effect(world):
     time.sleep(1)
     world.ask(NO_EFFECT.format(BAD))
     bad = world.shard_of(BAD)
-    machine_cases.require_all_rise(world, 12, [it for it in range(world.options.shards) if it != bad])
+    test_machines.require_all_rise(world, 12, [it for it in range(world.options.shards) if it != bad])
     world.ask(AN_EFFECT)
 
 
 @case("300 sessions; one has a text of 1,000,001 bytes", judged=judge_poisoned, made=MANY | {"seconds": 16})
 def poison_text(world):
     time.sleep(2)
-    with world.feeding, errors.opened(world.outbox("s1")) as file:
+    with world.feeding, cases.opened(world.outbox("s1")) as file:
         file.execute("DROP TRIGGER too_long")
         file.execute("INSERT INTO text (session, body) VALUES (?, ?)", (BAD, b"x" * TOO_LONG))
     time.sleep(10)
@@ -374,7 +374,7 @@ def loss_and_store_killed(world):
 def rolling_upgrade(world):
     """As a unit does it."""
     for name in (*RECEIVERS, *SENDERS):
-        world.require_end([name])
+        assert world.ended(name) == []
         time.sleep(3.5)
 
 
@@ -385,7 +385,7 @@ def move_a_shard(world):
         for name, shards in (("r0", first), ("r1", second)):
             world.shards_of[name] = shards
             world.processes[name].is_tended = False
-            world.require_end([name])
+            assert world.ended(name) == []
             world.start_receiver(name)
             time.sleep(1.5)
 
@@ -415,8 +415,8 @@ def senders_cut_slow_killed(world):
 @case("the stream of receipts has one replica, its node is away for 27 s, receivers for 12 s", gap=25,
       made=R | {"receipt_replicas": 1, "seconds": 30})
 def receipts_node_killed(world):
-    info = machine_cases.stream_of(world, "RECEIPTS")
-    world.require(info["config"]["num_replicas"] == 1, "the stream of receipts has more than one replica")
+    info = test_machines.stream_of(world, "RECEIPTS")
+    assert info["config"]["num_replicas"] == 1, "the stream of receipts has more than one replica"
     node = info["cluster"]["leader"]
     world.stop(*RECEIVERS, node)
     time.sleep(12)
@@ -487,3 +487,6 @@ def power_and_partition(world):
     lose_power(world, ["n0"])
     world.kill_database(1)
     time.sleep(3)
+
+
+test_case = cases.tested(CASES)

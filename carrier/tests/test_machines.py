@@ -1,5 +1,5 @@
 """What is done to the machines of machines.py: cases as those of cases.py. A case's function does it, and returns when
-it is over; then the network is whole again."""
+it is over; then the network is whole again, each session is closed, and what took effect is looked at."""
 import dataclasses
 import json
 import random
@@ -8,8 +8,10 @@ import time
 import typing
 
 import cases
+import engines
 import evidence
 import machines
+import pytest
 from machines import DATABASE, NODES, RECEIVERS, SENDERS
 
 BEFORE = 3              # seconds before anything is done
@@ -35,6 +37,39 @@ class Case(cases.Named):
     stand: int = None       # so many sessions have to stand
     judged: typing.Callable = None
     made: dict = dataclasses.field(default_factory=dict)
+
+    def do(self, world):
+        since = time.monotonic()
+        super().do(world)
+        world.network.heal()
+        world.await_fed()
+        world.close_all()
+        faults, seen = judge(world, self, since)
+        print(seen)
+        assert not faults, (seen, faults)
+
+
+@pytest.fixture(scope="module")
+def template():
+    """A database that is new."""
+    assert machines.missing() == []
+    with engines.new_folder() as folder:
+        machines.make_template(f"{folder}/database")
+        yield f"{folder}/database"
+
+
+@pytest.fixture
+def place(request, programs, folder, template):
+    """The machines of a case, which have begun."""
+    network = machines.Network()
+    world = machines.World(folder, programs, network, request.param)
+    try:
+        world.start(template)
+        time.sleep(BEFORE)
+        yield world
+    finally:
+        world.end()
+        network.stop()
 
 
 CASES, case = cases.table(Case)
@@ -131,8 +166,8 @@ def require_all_rise(world, seconds, shards=None):
     before = world.of_shards(world.effects())
     time.sleep(seconds)
     after, sent = (world.of_shards(it) for it in (world.effects(), world.sent))
-    if not all(after[it] > before[it] or after[it] == sent[it] for it in shards or range(len(after))):
-        world.notes.append(f"a shard of {shards or 'all'} stood: {before}, {after} of {sent}")
+    assert all(after[it] > before[it] or after[it] == sent[it] for it in shards or range(len(after))), \
+        f"a shard of {shards or 'all'} stood: {before}, {after} of {sent}"
 
 
 @case("one receiver alone; a node is away for 24 s", gap=10, made={"seconds": 30})
@@ -211,7 +246,7 @@ def frame_deleted(world):
     time.sleep(2)
     end = stream_of(world, 0)["state"]["last_seq"]
     time.sleep(2)
-    world.require(world.ask_node(world.leader(), "delete", 0, end) is not None, f"frame {end} isn't deleted")
+    assert world.ask_node(world.leader(), "delete", 0, end) is not None, f"frame {end} isn't deleted"
     world.start_receivers()
 
 
@@ -222,7 +257,7 @@ def told_to_end(world):
         for name in away:
             world.network.isolate(name)
         time.sleep(2)
-        world.require_end(["s0", "r0"])
+        assert world.ended("s0", "r0") == []
         world.network.heal()
         time.sleep(4)
 
@@ -327,7 +362,7 @@ def outbox_disk_full(world):
     """So that texts and frames pile up."""
     world.network.isolate("s0")
     fill_for(world, ["s0"], 7)
-    world.require(world.counts["insertions that failed"], "the disk wasn't full")
+    assert world.counts["insertions that failed"], "the disk wasn't full"
 
 
 def lose_power(world, nodes):
@@ -488,7 +523,7 @@ def judge_whole(world, case, faults):
 
 def judge(world, case, since):
     """What went wrong, and the line of what was seen."""
-    faults = list(world.notes)
+    faults = []
     whole = (case.judged or judge_whole)(world, case, faults)
     found, gap = world.effects(), world.longest_gap(since)
     doubled = sum(len(texts) - len(set(texts)) for texts in found.values())
@@ -498,28 +533,10 @@ def judge(world, case, since):
         faults.append(f"{doubled} effects came twice")
     if gap > case.gap:
         faults.append(f"nothing took effect for {gap:.1f} s")
-    noted = len(world.notes)
-    world.require_end([it for it in (*SENDERS, *RECEIVERS) if world.processes[it].is_tended])
-    faults += world.notes[noted:]
+    faults += world.ended(*(it for it in (*SENDERS, *RECEIVERS) if world.processes[it].is_tended))
     faults += [f"{what}: {count}" for what, count in world.counts.items()] if faults else []
     return faults, (f"{sent} texts sent, {delivered} delivered, {lost} lost, {doubled} doubled;"
                     f" longest gap {gap:.1f} s; {whole}")
 
 
-def run(programs, folder, template, case):
-    """One case: whether it went right, its line, and what went wrong."""
-    network = machines.Network()
-    world = machines.World(folder, programs, network, machines.Options(**case.made))
-    try:
-        world.start(template)
-        time.sleep(BEFORE)
-        since = time.monotonic()
-        case.run(world, *case.given)
-        network.heal()
-        world.await_fed()
-        world.close_all()
-        faults, seen = judge(world, case, since)
-    finally:
-        world.end()
-        network.stop()
-    return not faults, f"machines {case.name()}: {case.done}: {seen}", faults
+test_case = cases.tested(CASES)

@@ -1,9 +1,9 @@
-"""Receipts (carrier/sessions/receipts.h): cases as those of repro.py, whose sessions have a key of the way back. What
-a carrier confirmed and lost is published again; nothing is lost, and nothing doubled."""
+"""Receipts (carrier/sessions/receipts.h): cases as those of test_repro.py, whose sessions have a key of the way back.
+What a carrier confirmed and lost is published again; nothing is lost, and nothing doubled."""
 import time
 
 import cases
-import repro
+import test_repro
 from cases import LAST, WITH_RECEIPTS, close, texts
 
 TOM = cases.TOM.rstrip("\n") + f" {'55' * 32}\n"
@@ -20,7 +20,7 @@ def require_each_once(place):
     """No effect came twice, whatever was published again."""
     twice = place.ask("store", "SELECT session, text, count(*) FROM effect GROUP BY session, text"
                                " HAVING count(*) > 1")
-    place.require(not twice, f"doubled: {twice[:3]}")
+    assert not twice, f"doubled: {twice[:3]}"
 
 
 def relay_once(place):
@@ -30,11 +30,12 @@ def relay_once(place):
 
 
 def deliver_until_receipts(place, rows, count):
-    """Texts are delivered, and so many receipts are left in the carrier, of which the sender hasn't heard."""
+    """Texts are delivered. Whether so many receipts are left in the carrier then, of which the sender hasn't heard."""
     place.send(rows)
     receiver = place.receive()
-    place.expect(lambda: place.count("carrier", "receipt") == count, "no receipts")
+    are_left = place.wait(lambda: place.count("carrier", "receipt") == count, 5)
     place.end(receiver)
+    return are_left
 
 
 def lose_carrier(place, rows_of, seconds):
@@ -53,16 +54,16 @@ def receipts_tell_texts(place):
     """A text is in `text`, then in `sealed` with its number and part, and then in neither."""
     place.send(texts("ann", 0, 20) + close("ann"))
     sealed = place.ask("outbox", "SELECT text, number, part FROM sealed ORDER BY text")
-    place.require([it[0] for it in sealed] == list(range(1, 22)), f"sealed: {sealed[:3]}")
-    place.require(place.count("outbox", "text") == 0, "texts wait")
+    assert [it[0] for it in sealed] == list(range(1, 22)), f"sealed: {sealed[:3]}"
+    assert place.count("outbox", "text") == 0, "texts wait"
     place.receive()
     effects = place.ask("store", "SELECT text, number, part FROM effect WHERE session = 'ann'")
     found = {text: (number, part) for text, number, part in effects}
     wanted = {f"ann {it - 1}".encode(): (number, part) for it, number, part in sealed if it < 21}
-    place.require(found == wanted and len(set(wanted.values())) == 20, f"effects: {effects[:3]}")
+    assert found == wanted and len(set(wanted.values())) == 20, f"effects: {effects[:3]}"
     place.start("sender")
     place.await_no_frames()
-    place.require(place.count("outbox", "sealed") == 0, "a text isn't said to have taken effect")
+    assert place.count("outbox", "sealed") == 0, "a text isn't said to have taken effect"
 
 
 @case("the carrier's file is deleted, three times", {"ann": 3000, "tom": 3000}, 30, (WITH_RECEIPTS, TOM))
@@ -92,7 +93,7 @@ def receipts_frames_gone(place):
         place.expect(lambda: place.count("carrier", "carried") >= 1, "no frames", 15)
         place.change("carrier", "DELETE FROM carried")
     place.receive()
-    place.require("receipts_missing" in place.log(sender), "it isn't said")
+    assert "receipts_missing" in place.log(sender), "it isn't said"
     require_each_once(place)
     place.await_no_frames()
 
@@ -111,19 +112,20 @@ def last_receipt(place):
 @case("receipts are lost", {"ann": 100}, 20)
 def receipts_lost(place):
     """The sender is away: the receiver seals them again."""
-    deliver_until_receipts(place, texts("ann", 0, 100), 1)
+    were_left = deliver_until_receipts(place, texts("ann", 0, 100), 1)
     place.change("carrier", "DELETE FROM receipt")
     place.start("receiver")
     place.start("sender")
     place.await_no_frames(8)
     require_each_once(place)
+    assert were_left, "no receipts"
 
 
 @case("receipts that aren't the session's", {"ann": 50, "tom": 50}, 20, (WITH_RECEIPTS, TOM))
 def receipts_forged(place):
     """They delete nothing: junk, another session's, one under the session's own key, and one of an address that isn't
     the receiver's."""
-    deliver_until_receipts(place, texts("ann", 0, 50) + texts("tom", 0, 50), 2)
+    assert deliver_until_receipts(place, texts("ann", 0, 50) + texts("tom", 0, 50), 2), "no receipts"
     good = dict(place.ask("carrier", "SELECT session, receipt FROM receipt"))
     own = place.ask("carrier", "SELECT frame FROM carried WHERE session = 'ann' ORDER BY offset DESC LIMIT 1")[0][0]
     place.change("carrier", "DELETE FROM receipt")
@@ -133,17 +135,17 @@ def receipts_forged(place):
     for row in enumerate(forged, 1):
         place.change("carrier", RECEIPT, [row])
         time.sleep(0.1)
-    place.require(done(place, "ann") == 1 and place.frames() == 100,
-                  f"done below {done(place, 'ann')}, {place.frames()} frames are kept")
+    assert done(place, "ann") == 1 and place.frames() == 100, \
+        f"done below {done(place, 'ann')}, {place.frames()} frames are kept"
     place.change("carrier", RECEIPT, [(100, good["ann"])])
     place.expect(lambda: done(place, "ann") == 51, "the good one doesn't count")
-    place.require(sender.poll() is None, "the sender has ended")
+    assert sender.poll() is None, "the sender has ended"
 
 
 @case("an older outbox, of which a receipt is known", {"ann": 200}, 20)
 def receipts_old_outbox(place):
     """That it was restored is noticed by a receipt alone."""
-    repro.put_around_a_backup(place)
+    test_repro.put_around_a_backup(place)
     sender, _ = place.relay()
     place.await_no_frames()
     place.end(sender)
@@ -160,8 +162,8 @@ def receipts_last_number(place):
     place.put(texts("ann", 0, 2) + close("ann"))
     _, receiver = place.relay()
     place.await_no_frames()
-    place.require(done(place, "ann") == LAST + 1, f"done below {done(place, 'ann')}")
-    place.require("receipt_unsealed" not in place.log(receiver), "a receipt can't be sealed")
+    assert done(place, "ann") == LAST + 1, f"done below {done(place, 'ann')}"
+    assert "receipt_unsealed" not in place.log(receiver), "a receipt can't be sealed"
 
 
 @case("keys of the way back that aren't their own", {}, 10)
@@ -185,3 +187,6 @@ def receipts_stream_deleted(place):
     place.await_delivered()
     require_each_once(place)
     place.await_no_frames(20)
+
+
+test_case = cases.tested(CASES)
