@@ -20,7 +20,7 @@ from copied import TO_END, Copy, are_left, started, write_script
 # so ahead of them. One that $HANGS names goes on for a minute beside a process that it started, which
 # no interrupt ends.
 PART = r'''#!/bin/sh
-name=${0##"$PWD"/}; name=${name#tools/}; case $0 in */bin/pytest) name=pytest ;; esac
+name=${0##"$PWD"/}; name=${name#tools/}; case $0 in */bin/*) name=${0##*/} ;; esac
 note() { echo "$*" >> "$NOTES"; }
 among() { case " $2 " in *" $1 "*) ;; *) false ;; esac; }
 note "begin $name $*"
@@ -108,7 +108,7 @@ class Runs:
         self.copy = Copy(folder)
         for part in (parts.FIRST, parts.BUILD, *AFTER, *parts.MORE):
             tool = part.command.split()[0]
-            write_script(os.path.join(folder, "bin", tool) if tool == "pytest" else self.copy.path(tool), PART)
+            write_script(os.path.join(folder, "bin", tool) if tool in ("make", "pytest") else self.copy.path(tool), PART)
         for built in (building.program_of("krbrelay"), TESTS,
                       os.path.join(LIBRARY, "format")):
             os.makedirs(os.path.dirname(self.in_copy(built)))

@@ -286,7 +286,7 @@ def test_a_block_of_no_file_is_told():
 
 @pytest.mark.parametrize("line, faults", [
     ("`tools/check_documents --typed`", 0), ("`tools/check_documents --planted`", 1), ("`tools/planted`", 1),
-    ("`c/library --core` and `c/library --planted --planned`", 2)])
+    ("`c/costs --write` and `c/costs --planted --planned`", 2)])
 def test_a_command_that_is_not_there_is_told(line, faults, monkeypatch):
     monkeypatch.setattr(QUOTES, "lines_of", lambda _: [line])
     assert len(list(QUOTES.faults_of_commands("README.md"))) == faults

@@ -183,5 +183,4 @@ def test_processors_and_the_object_for_v3(model, for_v3):
 # ---- after all others
 
 def test_the_object_for_v3_was_tested(ran_over_v3):
-    """Where the processor has the level, whatever the loader says."""
-    assert ran_over_v3 or not over.has_level(pathlib.Path("/proc/cpuinfo").read_text(encoding="utf-8"))
+    assert over.is_tested(ran_over_v3, pathlib.Path("/proc/cpuinfo").read_text(encoding="utf-8"))

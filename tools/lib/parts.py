@@ -112,11 +112,11 @@ GATE = Part("rt ci", 174, ("rt",))
 BUILD = Part("tools/krbrelay --prove", 60, ("rt",))
 # The first builds the C library, which those after it take then. It stands on what krb_c stands on:
 # `rt ci` proves krb_c as one of the last crates, and compiles none of it.
-LIBRARY = Part("c/library --build", 80, ("rt", COMPILER, MAKE),
+LIBRARY = Part("make -s -C c", 80, ("rt", COMPILER, MAKE),
                over=tuple(building.below()["krb_c"]))
 PARTS = [
     LIBRARY,
-    Part("c/library --core", 70, ("rt", COMPILER, CRYPTOGRAPHY, MAKE, SQLITE),
+    Part("pytest c/tests", 70, ("rt", COMPILER, CRYPTOGRAPHY, MAKE, PYTEST, SQLITE),
          LIBRARY.command, over=()),
     Part("c/signatures", 10, ("rt", COMPILER, MAKE), LIBRARY.command, over=()),
     Part("c/costs", 10, (COMPILER, MAKE, "valgrind"), LIBRARY.command, over=()),
@@ -167,7 +167,7 @@ MORE = [
     Part("tests/fuzz 20000 2", 60, (PROGRAM, CRYPTOGRAPHY)),
     Part("kerberos/interop", 20, (PROGRAM, COMPILER, MIT, HEIMDAL)),
     Part("conformance/test --all", 20, (PROGRAM, COMPILER, CRYPTOGRAPHY, MIT, HEIMDAL)),
-    Part("c/library", 60, ("rt", COMPILER, MIT, "clang", "valgrind", MAKE)),
+    Part("pytest --all c/tests", 60, ("rt", COMPILER, MIT, "clang", "valgrind", MAKE, PYTEST)),
     Part("tests/program_costs", 30, (PROGRAM, COMPILER, "valgrind")),
     Part("c/dist --check", 60, ("rt", COMPILER, "clang", MAKE, CROSS)),
     Part("rust/test", 40, ("rt", COMPILER, CRYPTOGRAPHY, MAKE, PKG_CONFIG, CARGO), "c/dist --check"),
@@ -213,7 +213,7 @@ QUICK = [
 # What tools are for, in the order of the table. Those that aren't named check something.
 VERBS = {
     "run": ("krbrelay", "relay", "show", "picture", "check_job"),
-    "make": ("install", "c/library", "c/dist", "debian", "release", "reference", "figure"),
+    "make": ("install", "c/dist", "debian", "release", "reference", "figure"),
     "prove": ("test", "proving.py", "mutants"),
     "bench": ("bench", "bench_aes", "bench_lane", "tests/job_costs"),
 }
