@@ -22,7 +22,6 @@ from vectors.judging import Class
 
 # What each of these plants in each run, and has to report.
 OWN_CONTROLS = {
-    "c/signatures": "faults in the header, the sources and the map (c/tests/signatures/plants.py)",
     "c/costs": "costs that are higher, lower or of no case (tools/lib/cost_table.py)",
     "tests/freed_memory": "strings and a key in freed blocks and in what realloc leaves (tests/preloaded/left.c)",
     "tests/secret_places": "an address and a branch by a secret (tests/secrets/src/control.rattle)",

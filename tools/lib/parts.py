@@ -118,7 +118,6 @@ PARTS = [
     LIBRARY,
     Part("pytest c/tests", 70, ("rt", COMPILER, CRYPTOGRAPHY, MAKE, PYTEST, SQLITE),
          LIBRARY.command, over=()),
-    Part("c/signatures", 10, ("rt", COMPILER, MAKE), LIBRARY.command, over=()),
     Part("c/costs", 10, (COMPILER, MAKE, "valgrind"), LIBRARY.command, over=()),
     Part("pytest python/tests", 20, (COMPILER, CRYPTOGRAPHY, PYTEST), LIBRARY.command, over=()),
     Part("tools/check_documents", 10, over=()),

@@ -9,7 +9,7 @@ import re
 from lib.build import building
 
 
-OF_ROOMS = ("c/dist", "c/signatures", "c/costs", "rust/test", "go/test", "carrier/test",
+OF_ROOMS = ("c/dist", "c/costs", "rust/test", "go/test", "carrier/test",
             "kerberos/test", "kerberos/interop", "conformance/test")
 
 

@@ -77,7 +77,7 @@ def costs(copy: Copy, *calls: str) -> Told:
     return counted(copy.run(["c/costs", of, f"{copy.library}/libkrbrelay.so.1", *(calls or copy.wraps[:1])], cwd=copy.top))
 
 
-# The part of c/signatures that asks for no proved module.
+# The part of c/tests/test_signatures.py that asks for no proved module.
 VERSIONS = """import sys
 sys.path[:0] = ["c/tests", "tools"]
 from lib import report
