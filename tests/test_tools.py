@@ -409,7 +409,7 @@ FAULTS = tomllib.loads(building.text_of("conformance/faults.toml"))
 
 @pytest.mark.parametrize("fault", FAULTS.values(), ids=FAULTS)
 def test_a_fault_of_the_conformance_suite_has_one_place(fault):
-    """conformance/test --plant plants all of them at once."""
+    """conformance/run --plant plants all of them at once."""
     assert building.text_of(f"crates/{fault['file']}").count(fault["old"]) == 1
 
 

@@ -10,7 +10,7 @@ from lib.build import building
 
 
 OF_ROOMS = ("c/dist", "c/costs", "rust/test", "go/test", "carrier/test",
-            "kerberos/test", "kerberos/interop", "conformance/test")
+            "kerberos/test", "kerberos/interop", "conformance/run")
 
 
 def names():

@@ -189,7 +189,7 @@ def tool(copy: Copy, what: str) -> Told:
                      "install": ["pytest", "-q", "-x", "--quick", "-k", "object or everybody or counted or processor or loader", "tests/test_install.py"],
                      "test_building": ["pytest", "-q", "-x", "tests/test_building.py"],
                      "test_parts": ["pytest", "-q", "-x", "tests/test_parts.py"],
-                     "conformance": ["conformance/test", "--quick"]}[what], cwd=copy.top)
+                     "conformance": ["pytest", "-q", "-x", "--quick", "conformance"]}[what], cwd=copy.top)
 
 
 def crate(copy: Copy, name: str) -> Told:
