@@ -81,12 +81,8 @@ def sequences(shared_object, count, **more):
     run(sys.executable, TESTS / "sequences.py", shared_object, count, env={**os.environ, **more})
 
 
-def test_random_calls_beside_a_model(plain):
-    sequences(plain.room / over.SONAME, 200_000)
-
-
-def test_random_calls_over_the_object_for_v3(for_v3, pytestconfig):
-    sequences(for_v3.room / over.SONAME, 200_000 if pytestconfig.option.all else 50_000)
+def test_random_calls_beside_a_model(library, plain, pytestconfig):
+    sequences(library.room / over.SONAME, 200_000 if library == plain or pytestconfig.option.all else 50_000)
 
 
 @pytest.mark.slow
@@ -157,11 +153,6 @@ def test_more_programs_under_valgrind(plain):
 @pytest.mark.parametrize("name", ["mit", "flags"])
 def test_sessions_of_mit_under_valgrind(name, plain):
     run(over.there("valgrind"), *LEAKS, plain.compiled(f"tests/{name}.c", "cc", *over.mit_flags()))
-
-
-@pytest.mark.slow
-def test_messages_of_an_independent_reader_and_sealer(plain):
-    run(sys.executable, TESTS / "round_trip.py", plain.room / over.SONAME)
 
 
 @pytest.mark.slow
