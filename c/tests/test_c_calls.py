@@ -3,7 +3,7 @@
 The gate compiles them by cc. With --all they are compiled by gcc and clang too, and run under their sanitizers and
 valgrind, beside MIT's library, and on processors of an emulator (Debian's qemu-user). What this machine doesn't have
 is skipped, but for cc, and for the object for x86-64-v3 where the processor has that level. `--fuzz COUNT` has the
-tests that draw messages and calls under sanitizers draw so many: pytest --all -k drawn --fuzz 1000000 c/tests.
+tests that draw messages and calls under sanitizers draw so many: pytest --all -k drawn --fuzz=1000000 c/tests.
 """
 import os
 import pathlib
