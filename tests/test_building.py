@@ -22,10 +22,10 @@ GB = 1 << 30
 # What the last line says of a program that isn't proved.
 LAST_LINE = "some 500 times slower than the proved one: tools/krbrelay --prove makes that one."
 # The commands that test or time the program, which all want a proved one.
-NEED_PROVED = ("tests/repeated_frames", "tests/fuzz 8", "tests/freed_memory --program",
+NEED_PROVED = ("tests/repeated_frames", "tests/freed_memory --program",
                "tests/failing_calls program", "kerberos/interop", "bench 1")
 # Those that take the other one by a word, and how they say it.
-QUICK_FORMS = ("tests/repeated_frames --quick", "tests/fuzz --quick 8")
+QUICK_FORMS = ("tests/repeated_frames --quick",)
 WITHOUT = "over a program that was built without its proofs"
 TAKE_A_NAME = ("tests/freed_memory --program", "tests/job_costs --check")
 

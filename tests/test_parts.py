@@ -376,9 +376,9 @@ def test_quick(fresh):
     assert build in before and (len(before) > 1 or QUICK_AT_ONCE == 1), "it begins with a program without proofs"
     assert not any(name_of(it) in before for it in parts.QUICK if parts.UNPROVED in it.needs), "which others wait for"
     assert lines[-2].startswith("nothing was proved") and lines[-1] == f"{count} passed, 0 failed"
-    status, out, _, notes = fresh.run("--quick", FAILS="tests/fuzz")
-    fuzz = next(it for it in parts.QUICK if it.tool() == "tests/fuzz")
-    assert status == 1 and told_of_failure(fuzz) in out and "\nnothing was proved" in out
+    status, out, _, notes = fresh.run("--quick", FAILS="tests/repeated_frames")
+    failed = next(it for it in parts.QUICK if it.tool() == "tests/repeated_frames")
+    assert status == 1 and told_of_failure(failed) in out and "\nnothing was proved" in out
     assert out.endswith(f"{count - 1} passed, 1 failed\n"), "a part of --quick fails"
     fresh.copy.append("// newest\n", *SOURCE)
     status, out, _, _ = fresh.run("--quick")

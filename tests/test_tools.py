@@ -12,6 +12,7 @@ import tomllib
 
 import pytest
 
+import test_fuzz
 from lib import parts, report, scripts, typed
 from lib.build import assembly, building, c_tools, without_proofs
 from lib.faults import checks, planted, wrapped
@@ -184,9 +185,8 @@ def test_failing_calls_reports_what_may_not_come(sweep, command, ended, output, 
 
 @pytest.fixture
 def fuzz(monkeypatch):
-    loaded = scripts.load("tests/fuzz")
-    monkeypatch.setattr(loaded, "agrees", lambda *_: True)
-    return loaded
+    monkeypatch.setattr(test_fuzz, "agrees", lambda *_: True)
+    return test_fuzz
 
 
 @pytest.mark.parametrize("got, ended, right", [

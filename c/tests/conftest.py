@@ -12,8 +12,6 @@ RAN_OVER_V3 = pytest.StashKey()
 
 def pytest_addoption(parser):
     parser.addoption("--built", help="where libkrbrelay is built; else it is built first")
-    parser.addoption("--fuzz", type=int, metavar="COUNT",
-                     help="so many messages and random calls in each test that draws them under sanitizers")
 
 
 @pytest.fixture(scope="session")

@@ -192,7 +192,7 @@ LANGUAGES = [*((compiler, "c", standard) for compiler in ("gcc", "clang") for st
 
 
 @pytest.mark.slow
-@pytest.mark.parametrize("compiler, language, standard", LANGUAGES, ids=" ".join)
+@pytest.mark.parametrize("compiler, language, standard", LANGUAGES, ids=map(" ".join, LANGUAGES))
 @pytest.mark.parametrize("place, folder", [("alone", None), *((it, room) for it in ("before", "after") for room in FOLDERS)])
 def test_the_header_compiles_without_a_warning(compiler, language, standard, place, folder):
     """Alone, and beside those of MIT's and Heimdal's libraries."""

@@ -153,7 +153,7 @@ PARTS = [
     Part("tests/repeated_frames", 5, (PROGRAM, CRYPTOGRAPHY)),
     Part("carrier/test --library", 30, ("rt", COMPILER, MAKE, SQLITE), LIBRARY.command, over=()),
     Part("carrier/test --files", 10, (PROGRAM, "rt", COMPILER, MAKE, SQLITE), LIBRARY.command),
-    Part("tests/fuzz 2000", 5, (PROGRAM, CRYPTOGRAPHY)),
+    Part("pytest tests/test_fuzz.py", 5, (PROGRAM, CRYPTOGRAPHY, PYTEST)),
     Part("pytest conformance", 5, (PROGRAM, COMPILER, CRYPTOGRAPHY, PYTEST), LIBRARY.command),
     Part("pytest tests/test_bench.py", 30, ("rt", PYTEST)),
     Part("tests/secret_places", 60, ("rt", COMPILER, "valgrind"), over=("krb_seal",)),
@@ -163,7 +163,7 @@ PARTS = [
 MORE = [
     Part("tools/check_documents --typed", 10, (PROGRAM, "rt", COMPILER, MAKE, PKG_CONFIG, SQLITE)),
     Part("tools/mutants --try", 170, ("rt",)),
-    Part("tests/fuzz 20000 2", 60, (PROGRAM, CRYPTOGRAPHY)),
+    Part("pytest --all tests/test_fuzz.py", 60, (PROGRAM, CRYPTOGRAPHY, PYTEST)),
     Part("kerberos/interop", 20, (PROGRAM, COMPILER, MIT, HEIMDAL)),
     Part("pytest --all conformance", 20, (PROGRAM, COMPILER, CRYPTOGRAPHY, MIT, HEIMDAL, PYTEST)),
     Part("pytest --all c/tests", 60, ("rt", COMPILER, MIT, "clang", "valgrind", MAKE, PYTEST)),
@@ -199,7 +199,7 @@ QUICK = [
     Part("pytest tests/test_job_check.py", 1, (PYTEST, CRYPTOGRAPHY)),
     Part("pytest --quick conformance", 3, (CRYPTOGRAPHY, PYTEST)),
     # The longest first.
-    over_unproved("tests/fuzz --quick 300", 5, CRYPTOGRAPHY),
+    over_unproved("pytest --quick tests/test_fuzz.py", 5, CRYPTOGRAPHY, PYTEST),
     over_unproved("tests/repeated_frames --quick", 4, CRYPTOGRAPHY),
     *(over_unproved(f"pytest --quick --share {it}/{SHARES} tests/test_program.py", 6, COMPILER, PYTEST)
       for it in range(1, SHARES + 1)),
