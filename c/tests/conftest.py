@@ -73,14 +73,7 @@ def compiler(request):
 @pytest.fixture(params=["gcc", "clang"])
 def sanitizing(request, tmp_path):
     """Each compiler that has sanitizers. A test that takes it is slow."""
-    return with_sanitizers(request.param, tmp_path)
-
-
-def with_sanitizers(compiler, folder):
-    (folder / "none.c").write_text("int main(void) { return 0; }\n", encoding="ascii")
-    if over.ran(over.there(compiler), *over.SANITIZERS, folder / "none.c", "-o", folder / "none").returncode:
-        pytest.skip(f"{compiler} has no sanitizers")
-    return compiler
+    return over.with_sanitizers(request.param, tmp_path)
 
 
 @pytest.fixture(scope="session")

@@ -62,6 +62,14 @@ def there(command):
     return command
 
 
+def with_sanitizers(compiler, folder):
+    """A compiler that has sanitizers."""
+    (folder / "none.c").write_text("int main(void) { return 0; }\n", encoding="ascii")
+    if ran(there(compiler), *SANITIZERS, folder / "none.c", "-o", folder / "none").returncode:
+        pytest.skip(f"{compiler} has no sanitizers")
+    return compiler
+
+
 def mit_flags():
     """The words for MIT's library. Debian has it beside Heimdal's as mit-krb5."""
     there("pkg-config")

@@ -13,7 +13,6 @@ import sys
 import pytest
 
 import over_library as over
-from conftest import with_sanitizers
 from lib.build import building
 from over_library import SECRETS, TESTS, run
 
@@ -89,7 +88,8 @@ def test_random_calls_beside_a_model(library, plain, pytestconfig):
 def test_drawn_calls_under_the_sanitizers(library, tmp_path, pytestconfig):
     """The C beside the proved code is under the sanitizers, and Python isn't: the matrix reports what leaks."""
     made = tmp_path / "sanitized.so"
-    run(with_sanitizers("cc", tmp_path), *library.flags, *over.SANITIZERS, "-shared", "-fPIC", *library.beside_proved(), "-o", made)
+    run(over.with_sanitizers("cc", tmp_path), *library.flags, *over.SANITIZERS, "-shared", "-fPIC", *library.beside_proved(),
+        "-o", made)
     sequences(made, pytestconfig.option.fuzz or 50_000, LD_PRELOAD=run("cc", "-print-file-name=libasan.so").strip(),
               ASAN_OPTIONS="detect_leaks=0", PYTHONMALLOC="malloc")
 
@@ -109,14 +109,14 @@ def test_answers_to_changed_messages(plain):
 @pytest.mark.slow
 def test_drawn_messages_under_the_sanitizers(library, tmp_path, pytestconfig):
     """Each is tried in some 30 calls."""
-    program = library.compiled("tests/fuzz.c", with_sanitizers("cc", tmp_path), *over.SANITIZERS)
+    program = library.compiled("tests/fuzz.c", over.with_sanitizers("cc", tmp_path), *over.SANITIZERS)
     run(program, pytestconfig.option.fuzz or 20_000)
 
 
 @pytest.mark.slow
 def test_drawn_changes_behind_the_checksum(library, tmp_path, pytestconfig):
     """Or behind the encryption: an independent sealer seals them anew."""
-    program = library.compiled("tests/fuzz.c", with_sanitizers("cc", tmp_path), *over.SANITIZERS)
+    program = library.compiled("tests/fuzz.c", over.with_sanitizers("cc", tmp_path), *over.SANITIZERS)
     count = (pytestconfig.option.fuzz or 8000) // 4
     compare_answers([sys.executable, TESTS / "fuzz_behind.py", count, 1], [program, "given"])
 
