@@ -16,10 +16,10 @@ def pytest_addoption(parser):
 
 @pytest.fixture(scope="session")
 def make(pytestconfig):
-    """Runs make in c/."""
+    """Runs make in c/, which may have much to prove first."""
     given = pytestconfig.getoption("--built")
     words = [f"OUT={pathlib.Path(given).absolute()}", "ASSEMBLE=true"] if given else []
-    return lambda *goals: over.run("make", "-s", "-C", over.ROOM, *words, *goals)
+    return lambda *goals: over.run("make", "-s", "-C", over.ROOM, *words, *goals, timeout=None)
 
 
 @pytest.fixture(scope="session")
