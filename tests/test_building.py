@@ -469,7 +469,8 @@ def test_what_make_builds_in_c(copy):
 
     def build():
         with open(copy.notes, "w", encoding="utf-8"):
-            made = subprocess.run(["make", "-s", "-C", copy.path("c")], check=False, env=copy.given, capture_output=True, text=True)
+            made = subprocess.run(["make", "-s", "-C", copy.path("c")], check=False, env=copy.given, capture_output=True,
+                                  text=True)
         assert (made.returncode, made.stdout) == (0, ""), made.stderr
         return any(it.startswith("build ") for it in copy.noted()), "compiles" in copy.noted()
 

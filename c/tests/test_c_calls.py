@@ -88,8 +88,8 @@ def test_random_calls_beside_a_model(library, plain, pytestconfig):
 def test_drawn_calls_under_the_sanitizers(library, tmp_path, pytestconfig):
     """The C beside the proved code is under the sanitizers, and Python isn't: the matrix reports what leaks."""
     made = tmp_path / "sanitized.so"
-    run(over.with_sanitizers("cc", tmp_path), *library.flags, *over.SANITIZERS, "-shared", "-fPIC", *library.beside_proved(),
-        "-o", made)
+    run(over.with_sanitizers("cc", tmp_path), *library.flags, *over.SANITIZERS, "-shared", "-fPIC",
+        *library.beside_proved(), "-o", made)
     sequences(made, pytestconfig.option.fuzz or 50_000, LD_PRELOAD=run("cc", "-print-file-name=libasan.so").strip(),
               ASAN_OPTIONS="detect_leaks=0", PYTHONMALLOC="malloc")
 
@@ -167,8 +167,9 @@ def test_old_processors(model, plain):
 @pytest.mark.parametrize("model", ["qemu64", "Nehalem", "SandyBridge", "IvyBridge", "Haswell",
                                    *(f"Haswell,-{it}" for it in over.FEATURES)])
 def test_processors_and_the_object_for_v3(model, for_v3):
-    """One with the level, and that one without each of its features (without xsave: the system saves no registers of AVX)."""
-    run(over.there("qemu-x86_64"), "-cpu", model, for_v3.test("processor"), "supported" if model == "Haswell" else "refused")
+    """One with the level, and that one without each of its features, of which xsave is the system's part."""
+    run(over.there("qemu-x86_64"), "-cpu", model, for_v3.test("processor"),
+        "supported" if model == "Haswell" else "refused")
 
 
 # ---- after all others

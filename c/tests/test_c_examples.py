@@ -38,7 +38,8 @@ def test_two_ends(example):
 
 def test_the_manual_quotes_the_program():
     """tools/check_documents compares docs/C.md."""
-    quoted = re.search(r"two_ends.c, from the next line.*\n\.nf\n([^\0]*?)^\.fi$", building.text_of("c/man/krbrelay.3"), re.M)
+    page = building.text_of("c/man/krbrelay.3")
+    quoted = re.search(r"two_ends.c, from the next line.*\n\.nf\n([^\0]*?)^\.fi$", page, re.M)
     assert quoted[1].replace("\\e", "\\") == (EXAMPLES / "two_ends.c").read_text(encoding="utf-8")
 
 
@@ -76,7 +77,8 @@ def send_junk(port, data):
 def see_echo(program):
     """Two clients at once, and then one that sends no message, one that comes a second time, and one whose number isn't
     below 128."""
-    begin = functools.partial(subprocess.Popen, stdin=subprocess.DEVNULL, stdout=subprocess.PIPE, stderr=subprocess.PIPE, text=True)
+    begin = functools.partial(subprocess.Popen, stdin=subprocess.DEVNULL, stdout=subprocess.PIPE, stderr=subprocess.PIPE,
+                              text=True)
     with begin(["timeout", str(over.MOST), program, "server", "5"]) as server:
         port = server.stdout.readline().removeprefix("port ").strip()
         clients = [begin([program, "client", port, str(it), "200"]) for it in (1, 2)]

@@ -1,5 +1,6 @@
 """What libkrbrelay has and what of it is installed: names, versions, pages of the manual, the header in each language,
 the object that the loader takes, and the files for pkg-config and CMake."""
+import itertools
 import os
 import re
 import shutil
@@ -121,7 +122,7 @@ def test_all_that_is_installed_is_removed_and_nothing_else(make, tmp_path):
     other = prefix / "lib/pkgconfig/other.pc"
     other.touch()
     make("uninstall", f"PREFIX={prefix}")
-    assert sorted(str(it.relative_to(prefix)) for it in prefix.rglob("*")) == ["lib", "lib/pkgconfig", "lib/pkgconfig/other.pc"]
+    assert set(prefix.rglob("*")) == {other, *list(other.parents)[:2]}
     other.unlink()
     make("uninstall", f"PREFIX={prefix}")
     assert not prefix.exists()
@@ -193,12 +194,12 @@ LANGUAGES = [*((compiler, "c", standard) for compiler in ("gcc", "clang") for st
 
 @pytest.mark.slow
 @pytest.mark.parametrize("compiler, language, standard", LANGUAGES, ids=map(" ".join, LANGUAGES))
-@pytest.mark.parametrize("place, folder", [("alone", None), *((it, room) for it in ("before", "after") for room in FOLDERS)])
+@pytest.mark.parametrize("place, folder", [("alone", None), *itertools.product(("before", "after"), FOLDERS)])
 def test_the_header_compiles_without_a_warning(compiler, language, standard, place, folder):
     """Alone, and beside those of MIT's and Heimdal's libraries."""
     if folder and not os.path.exists(f"{folder}/krb5.h"):
         pytest.skip(f"{folder} isn't installed")
     text = "".join(BESIDE[place]) + f"int main(void) {{\n{FILLED[language]}\n{RETURNS}"
     beside = ["-isystem", folder] if folder else []
-    run(over.there(compiler), f"-std={standard}", "-pedantic", "-Wall", "-Wextra", "-Wconversion", "-Werror", "-fsyntax-only",
-        f"-I{ROOM}", *beside, "-x", language, "-", input=text, stdin=None)
+    run(over.there(compiler), f"-std={standard}", "-pedantic", "-Wall", "-Wextra", "-Wconversion", "-Werror",
+        "-fsyntax-only", f"-I{ROOM}", *beside, "-x", language, "-", input=text, stdin=None)
