@@ -22,10 +22,10 @@ GB = 1 << 30
 # What the last line says of a program that isn't proved.
 LAST_LINE = "some 500 times slower than the proved one: tools/krbrelay --prove makes that one."
 # The commands that test or time the program, which all want a proved one.
-NEED_PROVED = ("tests/repeated_frames", "tests/fuzz 8", "tests/freed_memory --program",
+NEED_PROVED = ("tests/repeated_frames", "tests/freed_memory --program",
                "tests/failing_calls program", "kerberos/interop", "bench 1")
 # Those that take the other one by a word, and how they say it.
-QUICK_FORMS = ("tests/repeated_frames --quick", "tests/fuzz --quick 8")
+QUICK_FORMS = ("tests/repeated_frames --quick",)
 WITHOUT = "over a program that was built without its proofs"
 TAKE_A_NAME = ("tests/freed_memory --program", "tests/job_costs --check")
 
@@ -461,16 +461,18 @@ built: krbrelay.s krbrelay-v3.s
 """
 
 
-def test_what_c_library_builds(copy):
+def test_what_make_builds_in_c(copy):
     """It stays when `rt ci` makes the folder `out` of each crate anew, and is built again where a source changed."""
     for path, text in (("c/dist", DIST), ("c/Makefile", MAKEFILE)):
         with open(copy.path(path), "w", encoding="utf-8") as file:
             file.write(text)
 
     def build():
-        status, out, err, notes = copy.run("c/library --build")
-        assert (status, out) == (0, "c_library: built\n"), err
-        return any(it.startswith("build ") for it in notes), "compiles" in notes
+        with open(copy.notes, "w", encoding="utf-8"):
+            made = subprocess.run(["make", "-s", "-C", copy.path("c")], check=False, env=copy.given, capture_output=True,
+                                  text=True)
+        assert (made.returncode, made.stdout) == (0, ""), made.stderr
+        return any(it.startswith("build ") for it in copy.noted()), "compiles" in copy.noted()
 
     note_libraries(copy)
     assert build() == (True, True)
@@ -497,7 +499,7 @@ def test_table(untouched):
 
 def test_each_part_is_a_script():
     every = [parts.FIRST, parts.BUILD, *parts.PARTS, *parts.MORE]
-    assert {it.tool() for it in every} - {"pytest"} <= set(FILES)
+    assert {it.tool() for it in every} - {"make", "pytest"} <= set(FILES)
 
 
 @pytest.mark.parametrize("name, _, purpose, needs", parts.table(), ids=FILES)

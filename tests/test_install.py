@@ -11,6 +11,7 @@ import tempfile
 
 import pytest
 
+import over_library
 from lib import manual, scripts
 from lib.build import building, levels
 
@@ -229,31 +230,20 @@ def test_everybody_may_read_the_installed_library(library):
 FEATURES = "fpu sse avx f16c xsave fma movbe abm bmi1 avx2 bmi2"
 
 
-def said_by_library(folder, commands, processor=FEATURES, loader="x86-64-v3 (supported, searched)"):
-    """What functions of c/library say and their status, as on a processor and with a loader."""
-    (folder / "v3").mkdir()
-    (folder / "processor").write_text(f"flags\t\t: {processor}\n", encoding="ascii")
-    (folder / "loader").write_text(f"#!/bin/sh\necho '  {loader}'\n", encoding="ascii")
-    (folder / "loader").chmod(0o755)
-    words = f". {building.TOP}/c/library; processor=processor; loader=./loader; {commands}"
-    done = subprocess.run(["bash", "-c", words], cwd=folder, check=False, capture_output=True, text=True)
-    return done.returncode, (done.stdout + done.stderr).splitlines()[-1:]
-
-
-def test_what_ran_and_what_was_skipped_is_counted(tmp_path):
-    told = said_by_library(tmp_path, "in_v3 true; skip one; in_v3 skip other; finish all")
-    assert told == (0, ["c_library: all passed; over the object for x86-64-v3: 2 parts; skipped: 2"])
-
-
 @pytest.mark.parametrize("left_out", ["", *FEATURES.split()[2:]])
-def test_a_processor_of_the_level_needs_a_test_over_its_object(tmp_path, left_out):
+def test_a_processor_of_the_level_needs_a_test_over_its_object(left_out):
     """Where the loader has it not, too."""
-    features = FEATURES.replace(left_out, "", 1) if left_out else FEATURES
-    status, _ = said_by_library(tmp_path, "in_v3 true; finish all", " ".join(features.split()), "x86-64-v2 (supported)")
-    assert status == (1 if not left_out else 0)
+    processor = f"flags\t\t: {FEATURES.replace(left_out, '', 1)}\n"
+    assert over_library.is_tested(False, processor) == bool(left_out) and over_library.is_tested(True, processor)
 
 
-def test_the_loader_s_own_words_are_read(tmp_path):
-    """A failing test over the object fails the run."""
-    has_level = bool(levels.own())
-    assert said_by_library(tmp_path, f"loader={levels.LOADER}; in_v3 false; finish all")[0] == has_level
+def test_what_is_not_there_is_skipped_and_counted(monkeypatch):
+    for asks in (lambda: over_library.there("no-such-command"), over_library.mit_flags):
+        monkeypatch.setenv("PATH", "/none")
+        with pytest.raises(pytest.skip.Exception):
+            asks()
+
+
+def test_the_loader_s_own_words_are_read():
+    told = subprocess.run([levels.LOADER, "--help"], check=False, capture_output=True, text=True)
+    assert bool(levels.own()) == bool(re.search(r"x86-64-v3 \(supported", told.stdout))

@@ -1,6 +1,6 @@
 """Tests tools/check_job and the reader of TOML that it has: the rows of tests/jobs/keys.toml, where faults are told
 to be, and the sizes of frames. No program runs: what the rows expect is what tests/test_program.py expects of the
-program, and tests/fuzz compares both. The sizes are those of the independent sealer."""
+program, and test_fuzz.py compares both. The sizes are those of the independent sealer."""
 import glob
 import os
 import random

@@ -20,7 +20,7 @@ from copied import TO_END, Copy, are_left, started, write_script
 # so ahead of them. One that $HANGS names goes on for a minute beside a process that it started, which
 # no interrupt ends.
 PART = r'''#!/bin/sh
-name=${0##"$PWD"/}; name=${name#tools/}; case $0 in */bin/pytest) name=pytest ;; esac
+name=${0##"$PWD"/}; name=${name#tools/}; case $0 in */bin/*) name=${0##*/} ;; esac
 note() { echo "$*" >> "$NOTES"; }
 among() { case " $2 " in *" $1 "*) ;; *) false ;; esac; }
 note "begin $name $*"
@@ -108,7 +108,7 @@ class Runs:
         self.copy = Copy(folder)
         for part in (parts.FIRST, parts.BUILD, *AFTER, *parts.MORE):
             tool = part.command.split()[0]
-            write_script(os.path.join(folder, "bin", tool) if tool == "pytest" else self.copy.path(tool), PART)
+            write_script(os.path.join(folder, "bin", tool) if tool in ("make", "pytest") else self.copy.path(tool), PART)
         for built in (building.program_of("krbrelay"), TESTS,
                       os.path.join(LIBRARY, "format")):
             os.makedirs(os.path.dirname(self.in_copy(built)))
@@ -379,9 +379,9 @@ def test_quick(fresh):
     assert build in before and (len(before) > 1 or QUICK_AT_ONCE == 1), "it begins with a program without proofs"
     assert not any(name_of(it) in before for it in parts.QUICK if parts.UNPROVED in it.needs), "which others wait for"
     assert lines[-2].startswith("nothing was proved") and lines[-1] == f"{count} passed, 0 failed"
-    status, out, _, notes = fresh.run("--quick", FAILS="tests/fuzz")
-    fuzz = next(it for it in parts.QUICK if it.tool() == "tests/fuzz")
-    assert status == 1 and told_of_failure(fuzz) in out and "\nnothing was proved" in out
+    status, out, _, notes = fresh.run("--quick", FAILS="tests/repeated_frames")
+    failed = next(it for it in parts.QUICK if it.tool() == "tests/repeated_frames")
+    assert status == 1 and told_of_failure(failed) in out and "\nnothing was proved" in out
     assert out.endswith(f"{count - 1} passed, 1 failed\n"), "a part of --quick fails"
     fresh.copy.append("// newest\n", *SOURCE)
     status, out, _, _ = fresh.run("--quick")

@@ -594,7 +594,7 @@ def test_links_lead_to_what_is_inside():
     files = dist.of_repository()
     assert b"\n## Unreleased\n" not in files["CHANGELOG.md"] and f"\n## {VERSION}\n".encode() in files["CHANGELOG.md"]
     assert list(pages_inside.dead(files)) == [] and b"](../README.md#build-and-link)" in files["kerberos/KERBEROS.md"]
-    assert not any(b"c/library --install" in it for place, it in files.items() if place.endswith(".md"))
+    assert not any(b"    make -C c install" in it for place, it in files.items() if place.endswith(".md"))
     taken = {it: it for it in files if it in bindings.TAKEN}
     inside = pages_inside.pages(taken, lambda it: files[it].decode())
     assert len(inside) > 2 and list(pages_inside.dead({it: files[it] for it in taken} | inside)) == []

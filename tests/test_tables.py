@@ -56,7 +56,7 @@ PLACES = [
     ("packaging/debian/changelog", r"^krbrelay \((.*)-\d+\)", "whole"),
     ("packaging/debian/libkrbrelay1.symbols", r"libkrbrelay\.so\.(\d+)", "major"),
     ("packaging/debian/libkrbrelay1.symbols", r"\(symver\)KRBRELAY_\S+ (\S+)$", "whole"),
-    ("c/library", r"libkrbrelay\.so\.(\d+)", "major"),
+    ("c/tests/over_library.py", r"libkrbrelay\.so\.(\d+)", "major"),
     (SYMBOLS, r"KRBRELAY_(\d+)\.", "major"),
     ("python/pyproject.toml", r'^version = "(.*)"$', "whole"),
     ("python/krbrelay/__init__.py", r'^__version__ = "(.*)"$', "whole"),
@@ -466,7 +466,7 @@ def of_walk(heading):
 
 
 ROOMS = ("tools/", "c/", "carrier/", "conformance/", "kerberos/", "python/", "rust/", "go/", "tests/",
-         "pytest ")
+         "pytest ", "make ")
 PROVED, TESTED = "docs/PROVED.md", "## What is only tested"
 ROW = re.compile(r"^\| `([^`]+)` \| (?:([\d,]+) \| )?(.+) \|$", re.M)
 

@@ -14,6 +14,7 @@ import types
 
 import pytest
 
+import test_fuzz
 from lib import parts, report, scripts, typed
 from lib.build import assembly, building, c_tools, without_proofs
 from lib.faults import checks, planted, wrapped
@@ -24,7 +25,6 @@ from vectors.judging import Class
 
 # What each of these plants in each run, and has to report.
 OWN_CONTROLS = {
-    "c/signatures": "faults in the header, the sources and the map (c/tests/signatures/plants.py)",
     "c/costs": "costs that are higher, lower or of no case (tools/lib/cost_table.py)",
     "tests/freed_memory": "strings and a key in freed blocks and in what realloc leaves (tests/preloaded/left.c)",
     "tests/secret_places": "an address and a branch by a secret (tests/secrets/src/control.rattle)",
@@ -187,9 +187,8 @@ def test_failing_calls_reports_what_may_not_come(sweep, command, ended, output, 
 
 @pytest.fixture
 def fuzz(monkeypatch):
-    loaded = scripts.load("tests/fuzz")
-    monkeypatch.setattr(loaded, "agrees", lambda *_: True)
-    return loaded
+    monkeypatch.setattr(test_fuzz, "agrees", lambda *_: True)
+    return test_fuzz
 
 
 @pytest.mark.parametrize("got, ended, right", [
@@ -288,7 +287,7 @@ def test_a_block_of_no_file_is_told():
 
 @pytest.mark.parametrize("line, faults", [
     ("`tools/check_documents --typed`", 0), ("`tools/check_documents --planted`", 1), ("`tools/planted`", 1),
-    ("`c/library --core` and `c/library --planted --planned`", 2)])
+    ("`c/costs --write` and `c/costs --planted --planned`", 2)])
 def test_a_command_that_is_not_there_is_told(line, faults, monkeypatch):
     monkeypatch.setattr(QUOTES, "lines_of", lambda _: [line])
     assert len(list(QUOTES.faults_of_commands("README.md"))) == faults
@@ -412,7 +411,7 @@ FAULTS = tomllib.loads(building.text_of("conformance/faults.toml"))
 
 @pytest.mark.parametrize("fault", FAULTS.values(), ids=FAULTS)
 def test_a_fault_of_the_conformance_suite_has_one_place(fault):
-    """conformance/test --plant plants all of them at once."""
+    """conformance/run --plant plants all of them at once."""
     assert building.text_of(f"crates/{fault['file']}").count(fault["old"]) == 1
 
 

@@ -14,7 +14,7 @@ static int is_of_v2(int feature)
     return feature == POPCNT || feature == SSSE3 || feature == SSE4_1 || feature == SSE4_2;
 }
 
-/* Of x86-64-v3 the features that this compiler has names for; c/library tries the others under an emulator. */
+/* Of x86-64-v3 the features that this compiler has names for; test_c_calls.py tries the others under an emulator. */
 #if defined(KRBRELAY_X86_64_V3)
 static int is_of_v3(int feature)
 {

@@ -1,6 +1,6 @@
 /* The proved functions behind calls that do something before: ask what the processor has, or name
  * an answer that the proved code never gives. In the library they have these names, and nobody else
- * sees them (c/library). */
+ * sees them (c/tests/test_c_files.py). */
 #ifndef PROVED_H
 #define PROVED_H
 

@@ -62,6 +62,12 @@ def counted(groups: list[Group]) -> dict[str, int]:
             "messages": sum(len(case.steps) for case in all_cases), **dict(sorted(results.items()))}
 
 
+def described(groups: list[Group]) -> dict[str, object]:
+    """What generated.toml has of the suite."""
+    text = text_of(groups)
+    return {"sha256": digest(text), "bytes": len(text), **counted(groups)}
+
+
 # ---- the file
 
 def line(value: object) -> str:

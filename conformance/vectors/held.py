@@ -2,14 +2,24 @@
 from __future__ import annotations
 
 import collections
+import pathlib
+import tempfile
 
-from vectors import judging
+from vectors import build, judging, readers
 from vectors.build import cases
 from vectors.model import Group
-from vectors.readers import Implementation, Verdicts
+from vectors.readers import Implementation, Library, Verdicts
 from vectors.tables import Table, example
 
 SHOWN = 5
+
+
+def compared(name: str, library: Library, sanitized: bool = False) -> tuple[int, list[str]]:
+    """As `faults`, of a reader of implementations.toml over the whole suite. NotThere where it can't be built."""
+    of, groups = readers.implementations()[name], build.built()
+    with tempfile.TemporaryDirectory() as folder:
+        runner = readers.built(of, library, pathlib.Path(folder), sanitized=sanitized)
+        return faults(of, groups, readers.verdicts_of(runner, judging.asked_of(of, groups)))
 
 
 def faults(of: Implementation, groups: list[Group], verdicts: Verdicts) -> tuple[int, list[str]]:

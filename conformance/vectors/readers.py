@@ -71,7 +71,7 @@ class Library:
 
 
 def library_at(prefix: str | None, program: str) -> Library:
-    """The library at a prefix, or the one that c/library has built."""
+    """The library at a prefix, or the one that make in c/ has built."""
     if prefix:
         return Library(pathlib.Path(prefix, "include"), pathlib.Path(prefix, "lib"), program)
     return Library(pathlib.Path(building.TOP, "c"), pathlib.Path(building.C_LIBRARY), program)

@@ -399,7 +399,7 @@ def load(path: str) -> ctypes.CDLL:
         library = ctypes.CDLL(path)
     except OSError as fault:
         raise LibraryError(
-            f"libkrbrelay can't be loaded: {fault}. `c/library --install PREFIX` builds it; "
+            f"libkrbrelay can't be loaded: {fault}. `make -C c install PREFIX=PREFIX` builds it; "
             f"then set {VARIABLE}=PREFIX/lib/{NAME}, or PKG_CONFIG_PATH=PREFIX/lib/pkgconfig."
         ) from fault
     for name, (result, parameters) in CALLS.items():

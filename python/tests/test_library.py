@@ -101,8 +101,8 @@ class Places(unittest.TestCase):
         said = self.says()
         if library.NAME in said and "(1, 1, 0)" in said:
             self.skipTest("the system's loader finds an installed library")
-        self.assertRegex(said, r"LibraryError: libkrbrelay can't be loaded: .*c/library "
-                               r"--install PREFIX.*KRBRELAY_LIBRARY=")
+        self.assertRegex(said, r"LibraryError: libkrbrelay can't be loaded: .*make -C c "
+                               r"install PREFIX=PREFIX.*KRBRELAY_LIBRARY=")
 
     def test_the_variable_names_none(self):
         self.copy_to(f"site/lib/krbrelay/{library.NAME}")

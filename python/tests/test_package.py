@@ -53,7 +53,7 @@ class Sources(unittest.TestCase):
         self.assertEqual((ran.returncode, ran.stderr), (0, ""))
 
     def test_lines(self):
-        for path in [*SOURCES, os.path.join(TOP, "python", "test")]:
+        for path in [*SOURCES, os.path.join(PYTHON, "tests", "bench.py")]:
             for line in text_of(path).split("\n"):
                 self.assertLessEqual(len(line), 100, path)
 

@@ -1,7 +1,7 @@
 """The checks of a job, in the program's order, each with the place of what it refuses, what stands
 there, and what may stand there. tables/job_keys.toml has the keys, and what their values are.
 
-It shares nothing with the crates; tests/fuzz compares its answers with those of the program. Of a
+It shares nothing with the crates; tests/test_fuzz.py compares its answers with those of the program. Of a
 key and of a seed it says how long they are, and not what they are.
 """
 import dataclasses

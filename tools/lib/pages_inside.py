@@ -5,7 +5,7 @@ import re
 
 LINK = re.compile(r"\[([^\]]*)\]\((?!\w+:)([^)#\s]+)(#[^)\s]*)?\)")
 OF_REPOSITORY = re.compile(r"\n## In the repository\n.*?(?=\n## |\Z)", re.S)
-BY_KIT = re.compile(r"^    c/library --install (\S+).*$", re.M)
+BY_KIT = re.compile(r"^    make -C c install PREFIX=(\S+).*$", re.M)
 BY_MAKE = r"    make check install PREFIX=\1     # in the folder of the library's tarball; it needs no kit"
 
 

@@ -113,15 +113,14 @@ GATE = Part("rt ci", 174, ("rt",))
 BUILD = Part("tools/krbrelay --prove", 60, ("rt",))
 # The first builds the C library, which those after it take then. It stands on what krb_c stands on:
 # `rt ci` proves krb_c as one of the last crates, and compiles none of it.
-LIBRARY = Part("c/library --build", 80, ("rt", COMPILER, MAKE),
+LIBRARY = Part("make -s -C c", 80, ("rt", COMPILER, MAKE),
                over=tuple(building.below()["krb_c"]))
 PARTS = [
     LIBRARY,
-    Part("c/library --core", 70, ("rt", COMPILER, CRYPTOGRAPHY, MAKE, SQLITE),
+    Part("pytest c/tests", 70, ("rt", COMPILER, CRYPTOGRAPHY, MAKE, PYTEST, SQLITE),
          LIBRARY.command, over=()),
-    Part("c/signatures", 10, ("rt", COMPILER, MAKE), LIBRARY.command, over=()),
     Part("c/costs", 10, (COMPILER, MAKE, "valgrind"), LIBRARY.command, over=()),
-    Part("python/test", 20, (COMPILER, CRYPTOGRAPHY), LIBRARY.command, over=()),
+    Part("pytest python/tests", 20, (COMPILER, CRYPTOGRAPHY, PYTEST), LIBRARY.command, over=()),
     Part("tools/check_documents", 10, over=()),
     Part("tools/reference --check", 10, over=()),
     Part("pytest tests/test_reference.py", 10, (PYTEST,), over=()),
@@ -157,8 +156,8 @@ PARTS = [
     Part("pytest carrier/tests/test_units.py carrier/tests/test_errors.py carrier/tests/test_answers.py carrier/tests/test_evidence.py"
          " carrier/tests/test_shown.py carrier/tests/test_demo.py", 20, (PYTEST, "rt", COMPILER, MAKE, SQLITE), LIBRARY.command, over=()),
     Part("pytest carrier/tests/test_chaos.py", 10, (PROGRAM, PYTEST, "rt", COMPILER, MAKE, SQLITE), LIBRARY.command),
-    Part("tests/fuzz 2000", 5, (PROGRAM, CRYPTOGRAPHY)),
-    Part("conformance/test", 5, (PROGRAM, COMPILER, CRYPTOGRAPHY), LIBRARY.command),
+    Part("pytest tests/test_fuzz.py", 5, (PROGRAM, CRYPTOGRAPHY, PYTEST)),
+    Part("pytest conformance", 5, (PROGRAM, COMPILER, CRYPTOGRAPHY, PYTEST), LIBRARY.command),
     Part("pytest tests/test_bench.py", 30, ("rt", PYTEST)),
     Part("tests/secret_places", 60, ("rt", COMPILER, "valgrind"), over=("krb_seal",)),
     Part("tests/secret_places --library", 20, ("rt", COMPILER, MAKE, "valgrind"), LIBRARY.command,
@@ -176,10 +175,10 @@ def of_carrier(words, minutes, *modules):
 MORE = [
     Part("tools/check_documents --typed", 10, (PROGRAM, "rt", COMPILER, MAKE, PKG_CONFIG, SQLITE)),
     Part("tools/mutants --try", 170, ("rt",)),
-    Part("tests/fuzz 20000 2", 60, (PROGRAM, CRYPTOGRAPHY)),
+    Part("pytest --all tests/test_fuzz.py", 60, (PROGRAM, CRYPTOGRAPHY, PYTEST)),
     Part("kerberos/interop", 20, (PROGRAM, COMPILER, MIT, HEIMDAL)),
-    Part("conformance/test --all", 20, (PROGRAM, COMPILER, CRYPTOGRAPHY, MIT, HEIMDAL)),
-    Part("c/library", 60, ("rt", COMPILER, MIT, "clang", "valgrind", MAKE)),
+    Part("pytest --all conformance", 20, (PROGRAM, COMPILER, CRYPTOGRAPHY, MIT, HEIMDAL, PYTEST)),
+    Part("pytest --all c/tests", 60, ("rt", COMPILER, MIT, "clang", "valgrind", MAKE, PYTEST)),
     Part("tests/program_costs", 30, (PROGRAM, COMPILER, "valgrind")),
     Part("c/dist --check", 60, ("rt", COMPILER, "clang", MAKE, CROSS)),
     Part("rust/test", 40, ("rt", COMPILER, CRYPTOGRAPHY, MAKE, PKG_CONFIG, CARGO), "c/dist --check"),
@@ -188,7 +187,7 @@ MORE = [
     Part("tools/debian --check", 60, ("rt", COMPILER, MAKE, PACKAGING, SERVERS, MIT)),
     Part("tools/release --check", 90, ("rt", COMPILER, CRYPTOGRAPHY, MAKE, PKG_CONFIG, PACKAGING, SERVERS, MIT, CROSS,
                                        CARGO, GO), "tools/debian --check"),
-    Part("python/test --all", 20, (COMPILER, CRYPTOGRAPHY)),
+    Part("pytest --all python/tests", 20, (COMPILER, CRYPTOGRAPHY, PYTEST)),
     Part("kerberos/test", 75, ("rt", COMPILER, MIT, HEIMDAL, REALM, DUMPCAP)),
     Part("pytest carrier/tests/test_effects_postgresql.py", 20, (PYTEST, "rt", COMPILER, MAKE, SQLITE, SERVERS, PSYCOPG)),
     Part("pytest carrier/tests/test_prometheus.py", 10, (PYTEST, "rt", COMPILER, MAKE, SQLITE, SERVERS, PROMETHEUS)),
@@ -212,9 +211,9 @@ QUICK = [
     Part("tools/tables --check", 1),
     Part("pytest carrier/tests/test_statements.py", 1, (PYTEST,)),
     Part("pytest tests/test_job_check.py", 1, (PYTEST, CRYPTOGRAPHY)),
-    Part("conformance/test --quick", 3, (CRYPTOGRAPHY,)),
+    Part("pytest --quick conformance", 3, (CRYPTOGRAPHY, PYTEST)),
     # The longest first.
-    over_unproved("tests/fuzz --quick 300", 5, CRYPTOGRAPHY),
+    over_unproved("pytest --quick tests/test_fuzz.py", 5, CRYPTOGRAPHY, PYTEST),
     over_unproved("tests/repeated_frames --quick", 4, CRYPTOGRAPHY),
     *(over_unproved(f"pytest --quick --share {it}/{SHARES} tests/test_program.py", 6, COMPILER, PYTEST)
       for it in range(1, SHARES + 1)),
@@ -227,7 +226,7 @@ QUICK = [
 # What tools are for, in the order of the table. Those that aren't named check something.
 VERBS = {
     "run": ("krbrelay", "relay", "show", "picture", "check_job"),
-    "make": ("install", "c/library", "c/dist", "debian", "release", "reference", "figure"),
+    "make": ("install", "c/dist", "debian", "release", "reference", "figure"),
     "prove": ("test", "proving.py", "mutants"),
     "bench": ("bench", "bench_aes", "bench_lane", "carrier/bench", "tests/job_costs"),
 }

@@ -9,8 +9,8 @@ import re
 from lib.build import building
 
 
-OF_ROOMS = ("c/library", "c/dist", "c/signatures", "c/costs", "python/test", "rust/test", "go/test", "carrier/bench",
-            "kerberos/test", "kerberos/interop", "conformance/test")
+OF_ROOMS = ("c/dist", "c/costs", "rust/test", "go/test", "carrier/bench",
+            "kerberos/test", "kerberos/interop", "conformance/run")
 
 
 def names():

@@ -184,11 +184,3 @@ def missing(given: Given, plant: Plant, before: List[str]) -> str:
         return f"{type(fault).__name__}: {fault}"
     seen = any(it.startswith(f"FAILED {plant.expected}") for it in lines)
     return "" if seen else f"no line begins with {plant.expected!r} among {lines}"
-
-
-def control(count: report.Count, given: Given) -> None:
-    """Each plant is seen, by the line that names what it changed. Those of enums are of the library's calls."""
-    before = faults_of(given)
-    for plant in PLANTS if given.library else [it for it in PLANTS if not it.expected.startswith("enum")]:
-        why = missing(given, plant, before)
-        count.right(not why, f"FAILED control: {plant.name}: {why}")

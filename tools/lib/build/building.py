@@ -53,7 +53,7 @@ def top_of(crate):
     return program_of(crate) if has_program(crate) else os.path.join(TOP, "out", "static", f"lib{crate}.a")
 
 
-# What c/library has built of krb_c: it lies there too.
+# What make in c/ has built of krb_c: it lies there too.
 C_LIBRARY = os.path.join(TOP, "out", "c_library")
 
 

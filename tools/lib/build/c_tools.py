@@ -60,7 +60,7 @@ def c_library(prefix, folder):
     if prefix:
         return os.path.abspath(prefix)
     prefix = os.path.join(folder, "prefix")
-    done = subprocess.run([os.path.join(building.TOP, "c", "library"), "--install", prefix],
+    done = subprocess.run(["make", "-s", "-C", os.path.join(building.TOP, "c"), "install", f"PREFIX={prefix}"],
                           check=False, stdout=subprocess.PIPE, stderr=subprocess.STDOUT, text=True)
     if done.returncode:
         sys.exit(f"{done.stdout}\nlibkrbrelay isn't built")

@@ -77,7 +77,7 @@ def costs(copy: Copy, *calls: str) -> Told:
     return counted(copy.run(["c/costs", of, f"{copy.library}/libkrbrelay.so.1", *(calls or copy.wraps[:1])], cwd=copy.top))
 
 
-# The part of c/signatures that asks for no proved module.
+# The part of c/tests/test_signatures.py that asks for no proved module.
 VERSIONS = """import sys
 sys.path[:0] = ["c/tests", "tools"]
 from lib import report
@@ -192,7 +192,7 @@ def tool(copy: Copy, what: str) -> Told:
                      "install": ["pytest", "-q", "-x", "--quick", "-k", "object or everybody or counted or processor or loader", "tests/test_install.py"],
                      "test_building": ["pytest", "-q", "-x", "tests/test_building.py"],
                      "test_parts": ["pytest", "-q", "-x", "tests/test_parts.py"],
-                     "conformance": ["conformance/test", "--quick"]}[what], cwd=copy.top)
+                     "conformance": ["pytest", "-q", "-x", "--quick", "conformance"]}[what], cwd=copy.top)
 
 
 def crate(copy: Copy, name: str) -> Told:
