@@ -4,15 +4,19 @@ from __future__ import annotations
 import dataclasses
 import enum
 import functools
+import tomllib
 
+from lib.build import building
 from vectors.build import cases, table
-from vectors.model import Asked, Case, Group, Result, Step
+from vectors.model import ERRORS, Asked, Case, Group, Result, Step
 from vectors.readers import Implementation
 
 # The numbers of krbrelay's refusals (RFC 4120 section 7.5.9, and its own).
-KRBRELAY = {"der": 901, "pvno": 39, "msg-type": 40, "etype": 14, "integrity": 31, "cksumtype": 50, "checksum": 41,
-            "address": 38, "time": 37, "order": 42, "fresh": 41, "record": 902, "closed": 903}
-CODES = {"krbrelay": KRBRELAY}
+CODES = {"krbrelay": {check: row["number"] for row in tomllib.loads(building.text_of("tables/answers.toml")).values()
+                      for check in row.get("suite", ())}}
+# Of who compares what a message says once it is authentic: the checksum comes before addresses, time and number.
+AUTHENTIC_FIRST = [it for it in ERRORS if it != "checksum"]
+AUTHENTIC_FIRST.insert(AUTHENTIC_FIRST.index("address"), "checksum")
 LONGEST_ADDRESS = 40    # of krbrelay's structs
 DAY = 86_400            # seconds, the longest skew of a job
 
@@ -61,10 +65,10 @@ def makes_check(of: Implementation, group: Group, step: Step) -> bool:
 
 
 def expected_codes(of: Implementation, group: Group, step: Step) -> set[str]:
-    """How it may name the first check that fails, by its order. Receivers of records have the RFC's order.
+    """How it may name the first check that fails. Receivers of records have the RFC's order.
     Where an element is malformed too, what is malformed may be seen before the check or after it."""
     checks = step.verdict.checks
-    first = min(checks, key=of.order.index) if of.order and not group.of_records else checks[0]
+    first = min(checks, key=AUTHENTIC_FIRST.index) if of.says_authentic_first and not group.of_records else checks[0]
     return {f"no:{CODES[of.codes][it]}" for it in (checks if "der" in checks else (first,))}
 
 

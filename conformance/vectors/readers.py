@@ -43,7 +43,7 @@ class Implementation:
     checks: frozenset[str] | None = None
     omits: frozenset[str] = frozenset()
     codes: str = ""
-    order: tuple[str, ...] = ()
+    says_authentic_first: bool = False
 
 
 def value_of(name: str, value: object) -> object:

@@ -17,6 +17,7 @@ UNPROVED = "one that is built from them without its proofs"
 COMPILER = "a C compiler"
 CRYPTOGRAPHY = "Python's package cryptography"
 PYTEST = "Debian's python3-pytest"
+HYPOTHESIS = "Debian's python3-hypothesis"
 MIT = "Debian's libkrb5-dev"
 HEIMDAL = "Debian's heimdal-multidev"
 MAKE = "make"
@@ -58,6 +59,7 @@ IS_THERE = {
     CRYPTOGRAPHY: lambda: runs("python3", "-c", "import sys; sys.path.append('../tools');"
                                " from oracle import opener"),
     PYTEST: lambda: has("pytest"),
+    HYPOTHESIS: lambda: runs("python3", "-c", "import hypothesis"),
     MIT: lambda: runs("pkg-config", "--exists", "mit-krb5"),
     HEIMDAL: lambda: runs("pkg-config", "--exists", "heimdal-krb5"),
     PSYCOPG: lambda: runs("python3", "-c", "import psycopg2"),
@@ -136,7 +138,7 @@ PARTS = [
     Part("pytest carrier/tests/test_upgrades.py", 5, (PYTEST, "rt", COMPILER, MAKE, SQLITE), LIBRARY.command, over=()),
     Part("pytest carrier/tests/test_left.py", 5, (PYTEST, "rt", COMPILER, CRYPTOGRAPHY, MAKE, SQLITE), LIBRARY.command, over=()),
     Part("pytest carrier/tests/test_simulation.py", 20, (PYTEST, "rt", COMPILER, MAKE, SQLITE), LIBRARY.command, over=()),
-    Part("pytest carrier/tests/test_simulation_model.py", 10, (PYTEST, "rt", COMPILER, MAKE), LIBRARY.command, over=()),
+    Part("pytest carrier/tests/test_simulation_model.py", 10, (PYTEST, HYPOTHESIS, "rt", COMPILER, MAKE), LIBRARY.command, over=()),
     Part("pytest tests/test_job_check.py", 10, (PYTEST, CRYPTOGRAPHY), over=()),
     Part("tests/vector_tables.py --check", 10, over=()),
     Part("pytest tests/test_building.py", 10, (PYTEST, COMPILER, CRYPTOGRAPHY), over=()),

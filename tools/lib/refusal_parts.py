@@ -1,12 +1,17 @@
 """What tools/tables writes of the refusals of a message. Into the crates that have each of them: the variants, their
 numbers, names and texts, the same as definitions, and the cases of two proofs, which judge what was written. And their usual
 causes."""
+import os
+import sys
 import textwrap
 import tomllib
-from collections.abc import Iterator
+from collections.abc import Iterable, Iterator
 
 from lib.build import building
 from lib.written import of_roff
+
+sys.path.append(os.path.join(building.TOP, "conformance"))
+from vectors.model import ERRORS  # noqa: E402
 
 ANSWERS = tomllib.loads(building.text_of("tables/answers.toml"))
 # In the order of the checks; those of a record and memory come last.
@@ -113,6 +118,21 @@ def of_peer() -> Iterator[str]:
     return iter(textwrap.wrap(text, OF_PAGE))
 
 
+# ---- the schema of the conformance suite
+
+def of_schema(what: str, errors: Iterable[str]) -> Iterator[str]:
+    lines = textwrap.wrap(", ".join(f'"{it}"' for it in errors) + "]},", OF_PAGE)
+    return ((f'  "{what}": {{"enum": [' if not at else "   ") + it for at, it in enumerate(lines))
+
+
+def checks_of_schema() -> Iterator[str]:
+    return of_schema("check", ERRORS)
+
+
+def errors_of_schema() -> Iterator[str]:
+    return of_schema("error", dict.fromkeys(ERRORS.values()))
+
+
 PARTS = [
     ("crates/krb_seal/src/refusal.rt", variants, "variants of refusals"), ("crates/krb_seal/src/refusal.rt", codes, "codes of refusals"),
     ("crates/krb_seal/src/refusal.rt", names, "names of refusals"),
@@ -125,6 +145,8 @@ PARTS = [
     ("crates/krb_laws/proofs/InCLemmas.antt", some_code, "cases of a number"),
     ("python/krbrelay/why.py", causes, "causes"), ("docs/REFUSED.md", rows, "refusals"), ("docs/C.md", of_peer, "refusals of a peer"),
     ("carrier/man/krbrelay-receiver.8", of_operator, "refusals of frames"),
+    ("conformance/vectors.schema.json", checks_of_schema, "checks of the suite"),
+    ("conformance/vectors.schema.json", errors_of_schema, "errors of the suite"),
 ]
 PLACES = {
     "variants of refusals": ("pub enum Refusal {\n", "}"),
@@ -143,5 +165,7 @@ PLACES = {
     "refusals of a peer": ("A peer is never `WIPED`. Malformed input, and input after the end of a session, never cause `MEMORY`."
                            " Refusals are\n", "\n## Room"),
     "refusals of frames": ("`frame_refused` has an answer of libkrbrelay. Usual causes:\n", ".SS Openings that are refused"),
+    "checks of the suite": ('  "result": {"enum": ["valid", "invalid", "acceptable"]},\n', '  "checks": '),
+    "errors of the suite": ('  "checks": {"type": "array", "minItems": 1, "items": {"$ref": "#/definitions/check"}},\n', '  "note": '),
     "cases of a number": ("some_code : (r : Refusal) → ¬ (code_of r ≡ 0)\n", "\nmodule"),
 }
