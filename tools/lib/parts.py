@@ -167,11 +167,10 @@ PARTS = [
 ]
 
 
-def of_carrier(words, minutes, *modules):
+def of_carrier(words, minutes, *needs):
     """Tests of the carrier over servers, which mostly wait for them."""
-    command = " ".join(["pytest --all", *filter(None, [words]), *(f"carrier/tests/test_{it}.py" for it in modules)])
-    needs = (PROGRAM,) * ("chaos" in modules) + ("clang",) * ("clang" in words)
-    return Part(command, minutes, (*needs, PYTEST, "rt", COMPILER, MAKE, SQLITE, SERVERS, MIT, REALM), waits=True)
+    return Part(f"pytest --all {words}", minutes,
+                (*needs, PYTEST, "rt", COMPILER, MAKE, SQLITE, SERVERS, MIT, REALM), waits=True)
 
 
 MORE = [
@@ -193,10 +192,11 @@ MORE = [
     Part("kerberos/test", 75, ("rt", COMPILER, MIT, HEIMDAL, REALM, DUMPCAP)),
     Part("pytest carrier/tests/test_effects_postgresql.py", 20, (PYTEST, "rt", COMPILER, MAKE, SQLITE, SERVERS, PSYCOPG)),
     Part("pytest carrier/tests/test_prometheus.py", 10, (PYTEST, "rt", COMPILER, MAKE, SQLITE, SERVERS, PROMETHEUS)),
-    *(of_carrier(f"--sanitized {it}", 60, "units", "errors", "tickets", "chaos") for it in ("gcc", "clang")),
-    of_carrier("", 60, "units", "errors", "servers", "demo", "mutants", "chaos", "endurance"),
-    *(of_carrier(f"--share {it}/2", 90, "repro", "receipts", "safety", "shown", "tickets", "machines", "two_faults")
-      for it in (1, 2)),
+    *(of_carrier(f"--sanitized {it} carrier/tests/test_units.py carrier/tests/test_errors.py"
+                 " carrier/tests/test_tickets.py carrier/tests/test_chaos.py", 60, PROGRAM, "clang") for it in ("gcc", "clang")),
+    of_carrier("carrier/tests/test_units.py carrier/tests/test_errors.py carrier/tests/test_servers.py carrier/tests/test_demo.py"
+               " carrier/tests/test_mutants.py carrier/tests/test_chaos.py carrier/tests/test_endurance.py", 60, PROGRAM),
+    *(of_carrier(f"--share {it}/2 -k test_case carrier/tests", 90, PSYCOPG) for it in (1, 2)),
 ]
 # Those of --quick: the first builds the program that some of the others run, without its proofs.
 BUILD_UNPROVED = Part("tools/krbrelay --unproved", 10, ("rt",))
