@@ -10,10 +10,6 @@ SLOW = pytest.mark.slow
 RAN_OVER_V3 = pytest.StashKey()
 
 
-def pytest_addoption(parser):
-    parser.addoption("--built", help="where libkrbrelay is built; else it is built first")
-
-
 @pytest.fixture(scope="session")
 def make(pytestconfig):
     """Runs make in c/, which may have much to prove first."""

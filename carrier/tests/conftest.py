@@ -12,14 +12,6 @@ import pytest
 import realms
 
 
-def pytest_addoption(parser):
-    parser.addoption("--sanitized", choices=("gcc", "clang"),
-                     help="the carrier's programs are built by this compiler, with its sanitizers")
-    parser.addoption("--runs", type=int, metavar="N", help="so many runs of chaos over three nodes, each store in turn")
-    parser.addoption("--seed", type=int, metavar="S", default=1, help="of the first of them")
-    parser.addoption("--seconds", type=int, metavar="N", default=30, help="for which the test of endurance runs")
-
-
 @pytest.fixture(autouse=True, scope="module")
 def _files_of_their_owner_alone():
     """Programs refuse a database that others may use, whoever makes it."""

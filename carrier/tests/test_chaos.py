@@ -24,7 +24,7 @@ def settings(config):
     """The settings of the runs, by their names, that the options choose."""
     runs = config.getoption("--runs", None)
     if runs:
-        return drawn(runs, config.getoption("--seed"))
+        return drawn(runs, config.getoption("--seed") or 1)
     return SANITIZED if config.getoption("--sanitized", None) else FILES | NODES
 
 
