@@ -69,7 +69,7 @@ static size_t write_name(char **to, const char *at)
     size_t len = strspn(at + 1, "abcdefghijklmnopqrstuvwxyzABCDEFGHIJKLMNOPQRSTUVWXYZ_0123456789");
     int name = name_at(at + 1, len);
     if (name < 0) {
-        (void)refuse("the names are :session, :client, :stream, :number, :part and :text", at);
+        refuse("the names are :session, :client, :stream, :number, :part and :text", at);
         return 0;
     }
     *to += sprintf(*to, "$%u", place_of((enum name)name));

@@ -97,7 +97,7 @@ static int take_shard(struct shard_locks *base, unsigned shard)
     char text[32];
     if (s->db == NULL)
         return -1;
-    ask_server(s, "SELECT pg_try_advisory_lock($1::int, $2::int)", shard, text);
+    (void)ask_server(s, "SELECT pg_try_advisory_lock($1::int, $2::int)", shard, text); /* `text` has it */
     return text[0] == 0 ? -1 : text[0] == 't';
 }
 
@@ -106,7 +106,7 @@ static void give_back(struct shard_locks *base, unsigned shard)
     struct postgresql_shard_locks *s = (struct postgresql_shard_locks *)base;
     char text[32];
     if (s->db != NULL)
-        ask_server(s, "SELECT pg_advisory_unlock($1::int, $2::int)", shard, text);
+        (void)ask_server(s, "SELECT pg_advisory_unlock($1::int, $2::int)", shard, text); /* it ends with the connection, too */
 }
 
 /* Opens the connection again, and takes the locks that were lost with it. */
@@ -127,10 +127,11 @@ static int count(struct shard_locks *base)
     char text[32];
     if ((s->db == NULL && !come_again(s)) || !be_counted(s))
         return -1;
-    ask_server(s, "SELECT count(*) FROM pg_locks JOIN pg_database ON pg_database.oid = database"
-           " WHERE locktype = 'advisory' AND datname = current_database() AND granted"
-           " AND classid::bigint = ($1::int::bigint & 4294967295) AND objid = 2147483647"
-           " AND objsubid = 2 AND $2::int = 0", 0, text);
+    /* `text` has it. */
+    (void)ask_server(s, "SELECT count(*) FROM pg_locks JOIN pg_database ON pg_database.oid = database"
+                        " WHERE locktype = 'advisory' AND datname = current_database() AND granted"
+                        " AND classid::bigint = ($1::int::bigint & 4294967295) AND objid = 2147483647"
+                        " AND objsubid = 2 AND $2::int = 0", 0, text);
     return text[0] == 0 ? -1 : atoi(text);
 }
 
