@@ -106,7 +106,7 @@ static void give_back(struct shard_locks *base, unsigned shard)
     struct postgresql_shard_locks *s = (struct postgresql_shard_locks *)base;
     char text[32];
     if (s->db != NULL)
-        (void)ask_server(s, "SELECT pg_advisory_unlock($1::int, $2::int)", shard, text); /* it ends with the connection, too */
+        (void)ask_server(s, "SELECT pg_advisory_unlock($1::int, $2::int)", shard, text); /* or it ends with the connection */
 }
 
 /* Opens the connection again, and takes the locks that were lost with it. */
