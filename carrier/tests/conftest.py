@@ -3,6 +3,7 @@ installed is a failure with its name. Servers listen on the loopback alone, and 
 import concurrent.futures
 import contextlib
 import os
+import signal
 
 import builds
 import cases
@@ -18,6 +19,11 @@ def pytest_addoption(parser):
     parser.addoption("--runs", type=int, metavar="N", help="so many runs of chaos over three nodes, each store in turn")
     parser.addoption("--seed", type=int, metavar="S", default=1, help="of the first of them")
     parser.addoption("--seconds", type=int, metavar="N", default=30, help="for which the test of endurance runs")
+
+
+def pytest_sessionstart():
+    """SIGTERM ends what runs as an interrupt does: with its servers."""
+    signal.signal(signal.SIGTERM, signal.default_int_handler)
 
 
 @pytest.fixture(autouse=True, scope="module")
