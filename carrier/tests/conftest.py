@@ -91,17 +91,7 @@ def serving(make):
 
 nats = serving(lambda folder: engines.Nats(folder, 1))
 postgres = serving(engines.Postgres)
-other_realm = serving(realms.Realm)
-
-
-@pytest.fixture(scope="module")
-def realm():
-    """A realm with its KDC, where more may be added."""
-    assert realms.missing() == []
-    with engines.new_folder() as folder, contextlib.closing(realms.Realm(folder)) as made:
-        for name in ("stranger", "other/service"):
-            made.add(name)
-        yield made
+realm, other_realm = (serving(realms.Realm) for _ in range(2))
 
 
 # ---- tests beside each other
