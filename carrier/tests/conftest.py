@@ -3,6 +3,7 @@ installed is a failure with its name. Servers listen on the loopback alone, and 
 import concurrent.futures
 import contextlib
 import os
+import signal
 
 import builds
 import cases
@@ -10,6 +11,11 @@ import chaos
 import engines
 import pytest
 import realms
+
+
+def pytest_sessionstart():
+    """SIGTERM ends what runs as an interrupt does: with its servers."""
+    signal.signal(signal.SIGTERM, signal.default_int_handler)
 
 
 @pytest.fixture(autouse=True, scope="module")
@@ -77,17 +83,7 @@ def serving(make):
 
 nats = serving(lambda folder: engines.Nats(folder, 1))
 postgres = serving(engines.Postgres)
-other_realm = serving(realms.Realm)
-
-
-@pytest.fixture(scope="module")
-def realm():
-    """A realm with its KDC, where more may be added."""
-    assert realms.missing() == []
-    with engines.new_folder() as folder, contextlib.closing(realms.Realm(folder)) as made:
-        for name in ("stranger", "other/service"):
-            made.add(name)
-        yield made
+realm, other_realm = (serving(realms.Realm) for _ in range(2))
 
 
 # ---- tests beside each other

@@ -1,5 +1,5 @@
-"""Mutants of carrier/, each with a planted bug that chaos, one case of test_repro.py and its like, or an opening that isn't
-right has to find: its name, the file, the text that stands there once, and what takes its place."""
+"""Mutants of carrier/, each with a planted bug that chaos, one case of test_repro.py and its like, or an opening that
+isn't right has to find: its name, the file, the text that stands there once, and what takes its place."""
 import shutil
 
 import sources as places

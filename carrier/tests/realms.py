@@ -18,6 +18,7 @@ class Realm:
     def __init__(self, folder, env=None, name=REALM):
         self.folder, self.port, self.env, self.name = folder, engines.free_ports(1)[0], env, name
         self.process = None
+        assert not missing(), f"missing: apt-get install {' '.join(missing())}"
         self.start()
 
     def start(self):

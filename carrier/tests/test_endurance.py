@@ -92,12 +92,7 @@ class Endurance:
                                           f"{self.programs}/{kind}", given, self.folder, name)
             self.ports[name] = ports[place]
             self.units[name].start()
-        self.require(cases.Place.wait(lambda: all(it.is_ready for it in self.units.values()), CAUGHT_UP),
-                     "a unit isn't ready")
-
-    def require(self, fine, what):
-        if not fine:
-            self.faults.append(what)
+        assert cases.Place.wait(lambda: all(it.is_ready for it in self.units.values()), CAUGHT_UP), "a unit isn't ready"
 
     # ---- the application
 
@@ -269,7 +264,7 @@ class Endurance:
         self.counts["texts"] = sum(map(len, found.values()))
         for name, unit in self.units.items():
             status = unit.stop()
-            self.require(status == 0 and not unit.was_killed, f"{name} ended with {status}")
+            self.faults += [f"{name} ended with {status}"] * (status != 0 or unit.was_killed)
             self.counts[f"starts of {name.rstrip('0123456789')}s"] += unit.starts
             for log in range(1, unit.starts + 1):
                 with open(f"{self.folder}/{name}.{log:04}.log", encoding="utf-8",

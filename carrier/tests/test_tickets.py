@@ -250,6 +250,8 @@ NOT_RIGHT = [Case(refused, what, {"good": GOOD}, 15, (), etype=etype, given=give
 def templates(programs, realm):
     """What all openings that aren't right begin with, for each type: a carrier in which a session of 40 texts stands,
     from an offset above 100."""
+    for name in ("stranger", "other/service"):
+        realm.add(name)
     with engines.new_folder() as folder:
         for etype in ETYPES:
             case = Case(None, "", lines=(), etype=etype)
