@@ -119,8 +119,7 @@ static void tell_refused(struct shard *s, const struct carried *it, enum krbrela
 
 /* The transaction has a frame of a session, of which this is known: what it is taken for. */
 static enum answer take_seen(struct shard *s, struct receiving *of, const struct carried *it,
-                             const struct krbrelay_seen *seen,
-                             uint32_t *outcome)
+                             const struct krbrelay_seen *seen, uint32_t *outcome)
 {
     struct krbrelay_receiving end;
     enum krbrelay_answer answer = krbrelay_shard_take(&s->ends, of->place, it->frame, it->len, seen, it->offset, outcome);
@@ -154,8 +153,8 @@ static void note_unaccepted(struct shard *s, struct receiving *of, const struct 
         list_add(&s->standing, of, &of->is_standing);
 }
 
-/* Finds the number of a refused frame, if it is the session's, as open_at_any_number. One that passes all checks but the number's
- * was opened already. */
+/* Finds the number of a refused frame, if it is the session's, as open_at_any_number. One that passes all checks but the
+ * number's was opened already. */
 static enum answer find_number(struct shard *s, struct receiving *of, const struct carried *it,
                                enum krbrelay_answer answer, uint64_t *number)
 {

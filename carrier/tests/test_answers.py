@@ -106,9 +106,9 @@ def faults(folder):
     for path in sources.all_of(folder):
         with open(path, encoding="utf-8") as file:
             texts[os.path.basename(path)] = file.read()
-    void = void_functions(texts.values())
+    declared = void_functions(text for name, text in texts.items() if name.endswith(".h"))
     return [it for name, text in texts.items() if name.endswith(".c")
-            for it in faults_of(name, text, void)]
+            for it in faults_of(name, text, declared | void_functions([text]))]
 
 
 # A source in which some answers are ignored: the lines that have to be found.
@@ -157,3 +157,12 @@ def test_planted_ones_are_found():
     wanted = {number for number, it in enumerate(lines, 1) if "/* found */" in it} | {UNEXPLAINED}
     told = faults_of("planted.c", bare, {"nothing", "close"})
     assert sorted(int(it.split(":")[1]) for it in told) == sorted(wanted), told
+
+
+def test_the_same_name_in_another_source_is_no_reason(tmp_path):
+    """Though the function there answers nothing."""
+    room = tmp_path / "base"
+    room.mkdir()
+    (room / "one.c").write_text("static void ask(int number)\n{\n    count += number;\n}\n", encoding="ascii")
+    (room / "two.c").write_text("static void work(void)\n{\n    ask(1);\n}\n", encoding="ascii")
+    assert faults(tmp_path) == ["two.c:3: the answer of ask is ignored"]
